@@ -1,0 +1,4 @@
+pub mod Alike
+pub mod Figures
+pub mod Numbers
+pub mod Spelt

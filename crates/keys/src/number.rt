@@ -1,0 +1,72 @@
+//! Keys that are numbers from 1 to 999,999,999.
+ghost use mathlib.Core.Path.{_≡_};
+ghost use Prim.Native.Nat.{ℕ, _≤_};
+ghost use lib.Dec.{eqb};
+ghost use Rattle.std.specs.Results.{Cases};
+ghost use Rattle.std.specs.Written.{decimal};
+ghost use Rattle.keys.specs.declared.KeyRefusal.the-variants.{Malformed};
+use crate::Key;
+use crate::KeyRefusal;
+use crate::Spelled;
+use crate::digits::natural;
+use crate::digits::written;
+use crate::spelling::Spelling;
+
+/// The greatest number that is a key.
+const LAST: u64 = 999_999_999;
+
+/// A number that stands for a net.
+#[derive(Clone, Copy)]
+pub struct NumberKey {
+    value: u32,
+    ghost low: { 1 ≤ value },
+    ghost high: { value ≤ 999999999 },
+}
+
+impl NumberKey {
+    /// The key of a number from 1 to 999,999,999.
+    pub fn new(n: u64) -> Result<NumberKey, KeyRefusal>
+        ensures { λ r. ⌜ Cases r (λ k. k .value ≡ n) (λ e. (e ≡ Malformed) × (1 ≤ n → n ≤ 999999999 → ⊥)) ⌝ }
+    {
+        if n < 1 || n > LAST {
+            return Err(KeyRefusal::Malformed);
+        }
+        Ok(NumberKey { value: n as u32 })
+    }
+
+    /// The number.
+    pub fn value(&self) -> u32
+        ensures { λ r. ⌜ r ≡ now (self .entry) .value ⌝ }
+    {
+        self.value
+    }
+}
+
+pub impl Key for NumberKey as NumberKeyKey {
+    ghost same = { λ a b. eqb (a .value) (b .value) };
+
+    ghost home = { λ a. a .value };
+
+    fn is_same(&self, other: &NumberKey) -> bool {
+        self.value == other.value
+    }
+
+    fn home(&self) -> u64 {
+        self.value as u64
+    }
+}
+
+pub impl Spelled for NumberKey as NumberKeySpelled {
+    ghost spelled = { λ k. decimal (k .value) };
+
+    fn read(word: &[u8]) -> Result<NumberKey, KeyRefusal> {
+        match natural(word) {
+            Some(n) => NumberKey::new(n),
+            None => Err(KeyRefusal::Malformed),
+        }
+    }
+
+    fn spelling(&self) -> Spelling {
+        written(self.value as u64)
+    }
+}

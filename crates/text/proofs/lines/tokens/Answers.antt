@@ -1,0 +1,15 @@
+use native.Mathlib.Omega.{arith}
+use Rattle.text.proofs.Split.{spaced-length}
+use Rattle.text.proofs.lines.tokens.Needs as need
+
+pub add-second-in-Some : need.add-second-in-Some
+add-second-in-Some c = omega (arith, spaced-length (c .in-Some .ensures tt), c .pre)
+
+pub add-second-in-Some-2 : need.add-second-in-Some-2
+add-second-in-Some-2 c = omega (arith, spaced-length (c .in-Some .ensures tt), c .pre)
+
+pub add-result-in-Some : need.add-result-in-Some
+add-result-in-Some c = omega (arith, spaced-length (c .in-Some .ensures tt), c .pre)
+
+pub add-result-in-Some-2 : need.add-result-in-Some-2
+add-result-in-Some-2 c = omega (arith, spaced-length (c .in-Some .ensures tt), c .pre)

@@ -1,0 +1,34 @@
+use mathlib.Core.Path.{_≡_, refl, sym, ap, subst, _∙_}
+use mathlib.Core.List.{_∷_}
+use Prim.Native.Nat.{_-_, _<_}
+use native.Mathlib.Omega.{arith}
+use lib.IntN.{ℤ, pos, negℤ, _-ℤ_}
+use lib.ListN.{length, getD, take, drop}
+use mir.Syntax.{w32}
+use mir.Val.{toZ, ofZ}
+use Rattle.std.specs.Written.{decimal}
+use Rattle.std.proofs.shelf.Parts.{first-rest}
+use Rattle.std.proofs.shelf.Signed.{ints}
+use Rattle.text.proofs.Weights.{minus-none, minus-zero, minus-some, plain-none}
+use Rattle.text.proofs.words.weight.Needs as need
+
+pub returns-in-Break-n : need.returns-in-Break-n
+returns-in-Break-n c =
+    let w = c .args .word .now in
+    let e = first-rest w 0 (c .if-word-gt0 .taken) ∙ ap (λ x. x ∷ take (length w - 1) (drop 1 w)) (c .if-word-eq45 .taken) in
+    rw (c .from-residual .ensures) (minus-none w _ e (c .in-Break-n .ensures tt))
+
+pub returns-then-n-eq0 : need.returns-then-n-eq0
+returns-then-n-eq0 c =
+    let w = c .args .word .now in
+    let e = first-rest w 0 (c .if-word-gt0 .taken) ∙ ap (λ x. x ∷ take (length w - 1) (drop 1 w)) (c .if-word-eq45 .taken) in
+    minus-zero w _ e (ap decimal (sym (c .if-n-eq0 .taken)) ∙ c .in-Continue-n .ensures tt .1)
+
+pub returns-then-word-eq45 : need.returns-then-word-eq45
+returns-then-word-eq45 c =
+    let w = c .args .word .now in
+    let e = first-rest w 0 (c .if-word-gt0 .taken) ∙ ap (λ x. x ∷ take (length w - 1) (drop 1 w)) (c .if-word-eq45 .taken) in
+    let n = c .in-Continue-n .n in
+    let l : n < 10000000 = c .in-Continue-n .ensures tt .0 in
+    let is : toZ w32 (ofZ w32 (pos 0 -ℤ toZ w32 n)) ≡ negℤ (pos n) = omega (arith, ints) in
+    minus-some w _ n _ e l (c .in-Continue-n .ensures tt .1) (c .if-n-eq0 .left) is

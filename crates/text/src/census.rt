@@ -1,0 +1,80 @@
+//! The simplest taker: it counts joins and adds up the sizes of their weights.
+ghost use mathlib.Core.Path.{_≡_};
+ghost use Prim.Native.Nat.{ℕ};
+ghost use mathlib.Core.List.{List};
+ghost use Rattle.std.specs.declared.option.Option.the-variants.{None};
+ghost use Rattle.text.specs.Census.{Counted};
+ghost use Rattle.text.specs.Joins.{answered, grown};
+use crate::takers::Headed;
+use crate::takers::JobRefusal;
+use crate::takers::Join;
+use crate::takers::Taker;
+use keys::Spelled;
+use std::marker::PhantomData;
+
+/// How many joins were taken, and the sum of their weights' sizes; each stops at 2^64 − 1.
+#[derive(Drop)]
+pub struct Census<K> {
+    joins: u64,
+    sizes: u64,
+    keys: PhantomData<K>,
+}
+
+/// The refusals of what refuses nothing: there are none.
+#[derive(Drop)]
+pub enum Never {}
+
+pub impl JobRefusal for Never as NeverRefusal {
+    ghost numbered = { λ _. 0 };
+
+    fn number(&self) -> u8 {
+        match *self {}
+    }
+}
+
+impl<K> Census<K> {
+    /// No joins yet.
+    pub fn new() -> Census<K>
+        ensures joins { λ r. ⌜ r .joins ≡ 0 ⌝ }
+        ensures sizes { λ r. ⌜ r .sizes ≡ 0 ⌝ }
+    {
+        Census {
+            joins: 0,
+            sizes: 0,
+            keys: PhantomData,
+        }
+    }
+
+    /// How many joins were taken.
+    pub fn joins(&self) -> u64
+        ensures { λ r. ⌜ r ≡ now (self .entry) .joins ⌝ }
+    {
+        self.joins
+    }
+
+    /// The sum of the sizes of their weights.
+    pub fn sizes(&self) -> u64
+        ensures { λ r. ⌜ r ≡ now (self .entry) .sizes ⌝ }
+    {
+        self.sizes
+    }
+}
+
+pub impl<K: Spelled + Headed> Taker for Census<K> as CensusTaker {
+    type Key = K;
+
+    type Refusal = Never;
+
+    ghost taken = { λ s js. Counted (s .joins) (s .sizes) js };
+
+    ghost rule = { λ _ _. None };
+
+    fn take(&mut self, join: Join<K>) -> Result<(), Never>
+        ensures answers { λ r. ⌜ ((js : List (Join K)) → Counted (now (self .entry) .joins) (now (self .entry) .sizes) js → r ≡ answered None) ⌝ }
+        ensures grows { λ r. ⌜ ((js : List (Join K)) → Counted (now (self .entry) .joins) (now (self .entry) .sizes) js → Counted (now (self .exit) .joins) (now (self .exit) .sizes) (grown js join r)) ⌝ }
+    {
+        self.joins = self.joins.saturating_add(1);
+        self.sizes = self.sizes.saturating_add(join.weight.unsigned_abs() as u64);
+        Ok(())
+    }
+}
