@@ -22,6 +22,14 @@ abbrev pub grown : {J R : Type 0} → List J → J → Result (Unit {0}) R → L
 grown js j (Ok _) = js ++ j ∷ []
 grown js j (Err e) = js
 
+-- whatever joins were taken before, the answer to the next one goes by the rule
+abbrev pub Answers : {J R : Type 0} → (List J → Type 0) → (List J → J → Option R) → J → Result (Unit {0}) R → Type 0
+Answers {J} before rule j r = (js : List J) → before js → r ≡ answered (rule js j)
+
+-- and then it is one of them, or none is
+abbrev pub Grows : {J R : Type 0} → (List J → Type 0) → (List J → Type 0) → J → Result (Unit {0}) R → Type 0
+Grows {J} before after j r = (js : List J) → before js → after (grown js j r)
+
 -- the same answer, with the number of a refusal and the place of the join
 abbrev pub handed : {R : Type 0} → (R → ℕ) → Place → Option R → Result (Unit {0}) JoinFault
 handed numbered p None = Ok tt

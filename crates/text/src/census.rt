@@ -1,10 +1,9 @@
 //! The simplest taker: it counts joins and adds up the sizes of their weights.
 ghost use mathlib.Core.Path.{_≡_};
 ghost use Prim.Native.Nat.{ℕ};
-ghost use mathlib.Core.List.{List};
 ghost use Rattle.std.specs.declared.option.Option.the-variants.{None};
 ghost use Rattle.text.specs.Census.{Counted};
-ghost use Rattle.text.specs.Joins.{answered, grown};
+ghost use Rattle.text.specs.Joins.{Answers, Grows};
 use crate::takers::Headed;
 use crate::takers::JobRefusal;
 use crate::takers::Join;
@@ -70,8 +69,8 @@ pub impl<K: Spelled + Headed> Taker for Census<K> as CensusTaker {
     ghost rule = { λ _ _. None };
 
     fn take(&mut self, join: Join<K>) -> Result<(), Never>
-        ensures answers { λ r. ⌜ ((js : List (Join K)) → Counted (now (self .entry) .joins) (now (self .entry) .sizes) js → r ≡ answered None) ⌝ }
-        ensures grows { λ r. ⌜ ((js : List (Join K)) → Counted (now (self .entry) .joins) (now (self .entry) .sizes) js → Counted (now (self .exit) .joins) (now (self .exit) .sizes) (grown js join r)) ⌝ }
+        ensures answers { λ r. ⌜ Answers {J = Join K} (Counted (now (self .entry) .joins) (now (self .entry) .sizes)) (λ _ _. None) join r ⌝ }
+        ensures grows { λ r. ⌜ Grows {J = Join K} (Counted (now (self .entry) .joins) (now (self .entry) .sizes)) (Counted (now (self .exit) .joins) (now (self .exit) .sizes)) join r ⌝ }
     {
         self.joins = self.joins.saturating_add(1);
         self.sizes = self.sizes.saturating_add(join.weight.unsigned_abs() as u64);

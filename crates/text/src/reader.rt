@@ -8,7 +8,7 @@ ghost use Rattle.std.specs.declared.result.Result.the-variants.{Ok};
 ghost use Rattle.keys.specs.Words.{Lacks};
 ghost use Rattle.text.specs.Boards.{setting, NoHeader, Outcome, OneList, OneOutcome, Written};
 ghost use Rattle.text.specs.Faults.{spot};
-ghost use Rattle.text.specs.Joins.{handed, grown, Accepts};
+ghost use Rattle.text.specs.Joins.{handed, Grows, Accepts};
 ghost use Rattle.text.specs.Pieces.{NamedIn};
 ghost use Rattle.text.specs.declared.faults.LineFault.the-variants.{Misformed};
 use crate::faults::Fault;
@@ -79,7 +79,7 @@ fn next_line<'t>(rest: &'t [u8], line: usize, at: usize) -> Result<(&'t [u8], &'
 /// Hands a join on; a refusal is given its place.
 fn hand_on<T: Taker>(taker: &mut T, join: Join<T::Key>, place: Place) -> Result<(), JoinFault>
     ensures answers { λ r. ⌜ ((js : List (Join T·Key)) → taken (now (taker .entry)) js → r ≡ handed (Refusal·JobRefusal .numbered) place (rule js join)) ⌝ }
-    ensures grows { λ r. ⌜ ((js : List (Join T·Key)) → taken (now (taker .entry)) js → taken (now (taker .exit)) (grown js join r)) ⌝ }
+    ensures grows { λ r. ⌜ Grows (taken (now (taker .entry))) (taken (now (taker .exit))) join r ⌝ }
 {
     match taker.take(join) {
         Ok(()) => Ok(()),

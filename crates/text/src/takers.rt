@@ -3,7 +3,7 @@ ghost use mathlib.Core.List.{List};
 ghost use mathlib.Core.Path.{_≡_};
 ghost use Prim.Native.Nat.{ℕ, _≤_};
 ghost use Rattle.std.specs.declared.option.Option.{Option};
-ghost use Rattle.text.specs.Joins.{answered, grown};
+ghost use Rattle.text.specs.Joins.{Answers, Grows};
 ghost use Rattle.text.specs.Lines.{lacks};
 ghost use mathlib.Core.Bool.{true};
 ghost use Rattle.text.specs.declared.takers.Join.{Join};
@@ -54,6 +54,6 @@ pub trait Taker {
 
     /// Takes the join, or refuses it and stays as it was.
     fn take(&mut self, join: Join<Self::Key>) -> Result<(), Self::Refusal>
-        ensures answers { λ r. ⌜ ((js : List (Join Self·Key)) → taken (now (self .entry)) js → r ≡ answered (rule js join)) ⌝ }
-        ensures grows { λ r. ⌜ ((js : List (Join Self·Key)) → taken (now (self .entry)) js → taken (now (self .exit)) (grown js join r)) ⌝ };
+        ensures answers { λ r. ⌜ Answers (taken (now (self .entry))) rule join r ⌝ }
+        ensures grows { λ r. ⌜ Grows (taken (now (self .entry))) (taken (now (self .exit))) join r ⌝ };
 }
