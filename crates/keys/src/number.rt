@@ -33,13 +33,6 @@ impl NumberKey {
         }
         Ok(NumberKey { value: n as u32 })
     }
-
-    /// The number.
-    pub fn value(&self) -> u32
-        ensures { λ r. ⌜ r ≡ now (self .entry) .value ⌝ }
-    {
-        self.value
-    }
 }
 
 pub impl Key for NumberKey as NumberKeyKey {
@@ -52,7 +45,7 @@ pub impl Key for NumberKey as NumberKeyKey {
     }
 
     fn home(&self) -> u64 {
-        self.value as u64
+        u64::from(self.value)
     }
 }
 

@@ -22,16 +22,22 @@ impl Spelling {
     pub fn new(word: &[u8]) -> Option<Spelling>
         ensures { λ r. ⌜ BySome r (12 < length (now (word .entry))) (λ s. take (s .len) (s .bytes) ≡ now (word .entry)) ⌝ }
     {
-        let len = word.len();
-        if len > ROOM {
+        if word.len() > ROOM {
             return None;
         }
+        Some(Spelling::copied(word))
+    }
+
+    fn copied(word: &[u8]) -> Spelling
+        requires { ⌜ length (now word) ≤ 12 ⌝ }
+        ensures { λ s. ⌜ take (s .len) (s .bytes) ≡ now (word .entry) ⌝ }
+    {
         let mut bytes = [0; 12];
-        for i in 0..len {
+        for i in 0..word.len() {
             bytes[i] = word[i];
         }
-        let len = len as u8;
-        Some(Spelling { bytes, len })
+        let len = word.len() as u8;
+        Spelling { bytes, len }
     }
 
     /// The bytes of the word.

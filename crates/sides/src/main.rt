@@ -2,14 +2,14 @@
 ghost use Prim.Native.Nat.{_≤_};
 ghost use lib.ListN.{length};
 ghost use Rattle.std.specs.Vec.{made};
+use faults::FaultDisplay;
 use std::error::AnyError;
 use std::fs::File;
 use std::io;
 use std::io::Read;
-use text::faults::FaultDisplay;
+use survey::summary::SummaryDisplay;
+use survey::summary::summarize;
 use text::reader::LIMIT;
-use text::summary::SummaryDisplay;
-use text::summary::summarize;
 
 /// One byte more than a text may have, so that a longer one is told.
 const ROOM: usize = LIMIT + 1;

@@ -1,10 +1,7 @@
-pub mod Counts
 pub mod Cuts
 pub mod Only
 pub mod Pieces
 pub mod Reading
 pub mod Split
-pub mod Summing
-pub mod Totals
 pub mod Weights
 pub mod Wrongs

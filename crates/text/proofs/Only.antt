@@ -20,14 +20,14 @@ use Rattle.keys.specs.Words.{Lacks, Word}
 use Rattle.keys.specs.declared.KeyRefusal.the-variants.{Malformed}
 use Rattle.text.specs.Boards.{Setting, lineOf, written, Fine, OneList, NoHeader, other, Stop, ended, unended, wrong, refused, Outcome, oversize, headless, reading, OneOutcome}
 use Rattle.text.specs.Boards as boards
-use Rattle.text.specs.Faults.{placed, ofLine, ofWord, ofJoin}
+use Rattle.faults.specs.Faults.{placed, ofLine, ofWord, ofJoin}
 use Rattle.text.specs.Joins.{Accepts, Joins}
 use Rattle.text.specs.Lines.{Short, spaced, Words}
 use Rattle.text.specs.Tokens.{Wrong, misformed, first-malformed, second-malformed, weight-malformed, beforeFirst, beforeSecond, beforeWeight}
-use Rattle.text.specs.declared.faults.Fault.{Fault}
-use Rattle.text.specs.declared.faults.LineFault.the-variants.{Misformed}
-use Rattle.text.specs.declared.faults.Place.{Place}
-use Rattle.text.specs.declared.faults.WordFault.the-variants.{Key, Weight}
+use Rattle.faults.specs.declared.places.Fault.{Fault}
+use Rattle.faults.specs.declared.refusals.LineFault.the-variants.{Misformed}
+use Rattle.faults.specs.declared.places.Place.{Place}
+use Rattle.faults.specs.declared.refusals.WordFault.the-variants.{Key, Weight}
 use Rattle.text.specs.declared.takers.Join.{Join}
 use Rattle.text.proofs.Cuts.{uncut, same-cut, lacks-cons, lacks-append, lacks-by}
 use Rattle.text.proofs.Split.{found-all}

@@ -16,14 +16,14 @@ use Rattle.keys.specs.Keys.{NoKey}
 use Rattle.keys.specs.Words.{Lacks}
 use Rattle.text.specs.Boards.{Setting, lineOf, written, NoHeader, other, Stop, ended, unended, wrong, refused, Outcome, oversize, headless, reading}
 use Rattle.text.specs.Boards as boards
-use Rattle.text.specs.Faults.{fault, placed, pieceOf, ofLine, ofWord, ofJoin}
+use Rattle.faults.specs.Faults.{fault, placed, pieceOf, ofLine, ofWord, ofJoin}
 use Rattle.text.specs.Lines.{NoWeight, spaced, Words}
-use Rattle.text.specs.Pieces.{LineOf, Named, NamedIn}
+use Rattle.text.specs.Pieces.{LineOf, Named, NamedBy}
 use Rattle.text.specs.Tokens.{Wrong, misformed, first-malformed, second-malformed, weight-malformed, beforeFirst, beforeSecond, beforeWeight}
-use Rattle.text.specs.declared.faults.Fault.{Fault}
-use Rattle.text.specs.declared.faults.Layer.{Layer}
-use Rattle.text.specs.declared.faults.Layer.the-variants.{Text, Job}
-use Rattle.text.specs.declared.faults.Place.{Place}
+use Rattle.faults.specs.declared.places.Fault.{Fault}
+use Rattle.faults.specs.declared.places.Layer.{Layer}
+use Rattle.faults.specs.declared.places.Layer.the-variants.{Text, Job}
+use Rattle.faults.specs.declared.places.Place.{Place}
 use Rattle.text.specs.declared.takers.Join.{Join}
 
 other-layer : Text ≡ Job → ⊥
@@ -120,9 +120,9 @@ module _ {K : Type 0} (spelled : K → List ℕ) (text steps : List ℕ) where
 
 module _ {K R : Type 0} (s : Setting K R) (within : (e : R) → (21 ≤ s .numbered e) × (s .numbered e ≤ 26)) (text : List ℕ) where
   abbrev named : Result ℕ Fault → Type 0
-  named r = NamedIn (s .spelled) text r
+  named r = NamedBy (s .spelled) text r
 
-  named-stop : (js : List (Join K)) (rest : List ℕ) (taken : List (Join K)) (r : Result ℕ Fault) → text ≡ written (s .spelled) (s .header) js ++ rest → Stop s (written (s .spelled) (s .header) js) rest (length js) taken r → NamedIn (s .spelled) text r
+  named-stop : (js : List (Join K)) (rest : List ℕ) (taken : List (Join K)) (r : Result ℕ Fault) → text ≡ written (s .spelled) (s .header) js ++ rest → Stop s (written (s .spelled) (s .header) js) rest (length js) taken r → NamedBy (s .spelled) text r
   named-stop js rest taken r w (ended is e) = subst named (sym e) tt
   named-stop js rest taken r w (unended some lacks e) =
       subst named (sym e) (λ steps.
@@ -147,7 +147,7 @@ module _ {K R : Type 0} (s : Setting K R) (within : (e : R) → (21 ≤ s .numbe
   named-headless p (other L more at lacks ne e) steps =
       subst (λ q. Named (s .spelled) text steps (fault Text 11 q)) (sym e) (named-line (s .spelled) text steps 1 [] L (10 ∷ more) at (record { front = []; back = 10 ∷ more; whole = at; starts = inl refl; ends = inr (more, refl); one = lacks }))
 
-  pub named-outcome : (before after : List (Join K)) (r : Result ℕ Fault) → Outcome s text before after r → NamedIn (s .spelled) text r
+  pub named-outcome : (before after : List (Join K)) (r : Result ℕ Fault) → Outcome s text before after r → NamedBy (s .spelled) text r
   named-outcome before after r (oversize l a e) = subst named (sym e) (λ steps. named-size (s .spelled) text steps)
   named-outcome before after r (headless p l n a e) = subst named (sym e) (named-headless p n)
   named-outcome before after r (reading js rest l w h ok a stop) = named-stop js rest after r w stop

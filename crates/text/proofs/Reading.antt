@@ -13,13 +13,13 @@ use Rattle.std.specs.declared.result.Result.the-variants.{Ok, Err}
 use Rattle.std.proofs.Told.{every-snoc}
 use Rattle.std.proofs.shelf.Lists.{append-nil, append-assoc, joined-more, length-append, length-push}
 use Rattle.text.specs.Boards.{lineOf, written, Fine}
-use Rattle.text.specs.Faults.{spot, placed}
+use Rattle.faults.specs.Faults.{spot, placed}
 use Rattle.text.specs.Joins.{Accepts, Joins, handed}
 use Rattle.text.specs.Lines.{spaced}
 use Rattle.text.specs.Tokens.{Wrong}
-use Rattle.text.specs.declared.faults.Fault.{Fault}
-use Rattle.text.specs.declared.faults.JoinFault.{JoinFault}
-use Rattle.text.specs.declared.faults.Place.{Place}
+use Rattle.faults.specs.declared.places.Fault.{Fault}
+use Rattle.faults.specs.declared.refusals.JoinFault.{JoinFault}
+use Rattle.faults.specs.declared.places.Place.{Place}
 use Rattle.text.specs.declared.takers.Join.{Join}
 
 -- the joins js stand in the lines before this one, which begins at an offset with the rest of the text

@@ -11,14 +11,14 @@ use Rattle.std.specs.declared.option.Option.the-variants.{Some}
 use Rattle.std.specs.declared.result.Result.{Result}
 use Rattle.std.specs.declared.result.Result.the-variants.{Ok, Err}
 use Rattle.keys.specs.Words.{Lacks}
-use Rattle.text.specs.Faults.{placed, ofSize, ofLine, ofJoin}
+use Rattle.faults.specs.Faults.{placed, ofSize, ofLine, ofJoin}
 use Rattle.text.specs.Joins.{Accepts, Joins}
 use Rattle.text.specs.Lines.{Short, spaced}
 use Rattle.text.specs.Tokens.{Wrong}
-use Rattle.text.specs.declared.faults.Fault.{Fault}
-use Rattle.text.specs.declared.faults.Place.{Place}
-use Rattle.text.specs.declared.faults.LineFault.the-variants.{Misformed}
-use Rattle.text.specs.declared.faults.SizeFault.the-variants.{TooLong}
+use Rattle.faults.specs.declared.places.Fault.{Fault}
+use Rattle.faults.specs.declared.places.Place.{Place}
+use Rattle.faults.specs.declared.refusals.LineFault.the-variants.{Misformed}
+use Rattle.faults.specs.declared.refusals.SizeFault.the-variants.{TooLong}
 use Rattle.text.specs.declared.takers.Join.{Join}
 
 -- how keys are spelled, the first line of their boards, and which joins are refused, by which numbers
@@ -52,6 +52,10 @@ pub record Written {K : Type 0} (spelled : K → List ℕ) (header : List ℕ) (
 abbrev pub OneList : {K : Type 0} → (K → List ℕ) → List ℕ → List ℕ → Type 0
 OneList {K} spelled header text = (js ks : List (Join K)) → Written spelled header js text → Written spelled header ks text → js ≡ ks
 
+-- the first line of the text is this one
+abbrev pub Begins : List ℕ → List ℕ → Type 0
+Begins header text = (rest : List ℕ) × (text ≡ header ++ 10 ∷ rest)
+
 -- the first line is not the header, and where it stands
 pub data NoHeader (header text : List ℕ) (p : Place) : Type 0 where
   unended : Lacks 10 text → p ≡ placed 1 [] text → NoHeader header text p
@@ -69,6 +73,15 @@ pub data Outcome {K R : Type 0} (s : Setting K R) (text : List ℕ) (before afte
   oversize : 60000 < length text → after ≡ before → r ≡ Err (ofSize TooLong) → Outcome s text before after r
   headless : (p : Place) → length text ≤ 60000 → NoHeader (s .header) text p → after ≡ before → r ≡ Err (ofLine (Misformed p)) → Outcome s text before after r
   reading : (js : List (Join K)) (rest : List ℕ) → length text ≤ 60000 → text ≡ written (s .spelled) (s .header) js ++ rest → Every Fine js → Accepts (s .rule) before js → after ≡ before ++ js → Stop s (written (s .spelled) (s .header) js) rest (length js) after r → Outcome s text before after r
+
+-- whatever joins were taken before, r is the outcome, and what it hands on is taken then
+abbrev pub Told : {K R : Type 0} → Setting K R → (List (Join K) → Type 0) → (List (Join K) → Type 0) → List ℕ → Result ℕ Fault → Type 0
+Told {K} s taken takenThen text r = (before : List (Join K)) → taken before → (after : List (Join K)) × Outcome s text before after r × takenThen after
+
+-- whatever joins were taken before: a text that writes joins which are taken is accepted, and they are handed on
+abbrev pub Complete : {K R : Type 0} → Setting K R → (List (Join K) → Type 0) → (List (Join K) → Type 0) → List ℕ → Result ℕ Fault → Type 0
+Complete {K} s taken takenThen text r =
+    (before js : List (Join K)) → taken before → length text ≤ 60000 → Written (s .spelled) (s .header) js text → Accepts (s .rule) before js → (r ≡ Ok (length js)) × takenThen (before ++ js)
 
 -- a text has one outcome
 abbrev pub OneOutcome : {K R : Type 0} → Setting K R → List ℕ → Type 0

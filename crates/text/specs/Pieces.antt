@@ -7,10 +7,11 @@ use Rattle.std.specs.declared.result.Result.{Result}
 use Rattle.std.specs.declared.result.Result.the-variants.{Ok, Err}
 use Rattle.keys.specs.Keys.{NoKey}
 use Rattle.keys.specs.Words.{Lacks}
-use Rattle.text.specs.Faults.{Layered, pieceOf}
+use Rattle.faults.specs.Faults.{Layered, pieceOf}
 use Rattle.text.specs.Lines.{NoWeight}
-use Rattle.text.specs.declared.faults.Fault.{Fault}
-use Rattle.text.specs.declared.faults.Layer.the-variants.{Text, Job}
+use Rattle.text.specs.declared.takers.Join.{Join}
+use Rattle.faults.specs.declared.places.Fault.{Fault}
+use Rattle.faults.specs.declared.places.Layer.the-variants.{Text, Job}
 
 -- the piece is a line of the text, without its end
 pub record LineOf (text piece : List ℕ) : Type 0 where
@@ -30,6 +31,10 @@ pub record Named {K : Type 0} (spelled : K → List ℕ) (text steps : List ℕ)
   pub join : f .layer ≡ Job → LineOf text (pieceOf f text steps)
   pub layered : Layered (f .layer) (f .number)
 
-abbrev pub NamedIn : {K : Type 0} → (K → List ℕ) → List ℕ → Result ℕ Fault → Type 0
-NamedIn spelled text (Ok n) = Unit {0}
-NamedIn spelled text (Err f) = (steps : List ℕ) → Named spelled text steps f
+abbrev pub NamedBy : {K : Type 0} → (K → List ℕ) → List ℕ → Result ℕ Fault → Type 0
+NamedBy spelled text (Ok n) = Unit {0}
+NamedBy spelled text (Err f) = (steps : List ℕ) → Named spelled text steps f
+
+-- the same, where some joins were taken before
+abbrev pub NamedIn : {K : Type 0} → (K → List ℕ) → (List (Join K) → Type 0) → List ℕ → Result ℕ Fault → Type 0
+NamedIn {K} spelled taken text r = (before : List (Join K)) → taken before → NamedBy spelled text r

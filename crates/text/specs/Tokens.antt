@@ -6,31 +6,31 @@ use lib.Chars.{codes}
 use lib.ListN.{length}
 use Rattle.keys.specs.Keys.{NoKey}
 use Rattle.keys.specs.declared.KeyRefusal.the-variants.{Malformed}
-use Rattle.text.specs.Faults.{spot, placed, ofLine, ofWord}
+use Rattle.faults.specs.Faults.{spot, placed, ofLine, ofWord}
 use Rattle.text.specs.Lines.{Words, NoWords, NoWeight}
-use Rattle.text.specs.declared.faults.Fault.{Fault}
-use Rattle.text.specs.declared.faults.Place.{Place}
-use Rattle.text.specs.declared.faults.LineFault.the-variants.{Misformed}
-use Rattle.text.specs.declared.faults.WordFault.the-variants as fault
+use Rattle.faults.specs.declared.places.Fault.{Fault}
+use Rattle.faults.specs.declared.places.Place.{Place}
+use Rattle.faults.specs.declared.refusals.LineFault.the-variants.{Misformed}
+use Rattle.faults.specs.declared.refusals.WordFault.the-variants as fault
 use Rattle.text.specs.declared.lines.Token.{Token}
 use Rattle.text.specs.declared.lines.Token.the-variants.{Key, Weight}
 use Rattle.text.specs.declared.lines.Parts.{Parts}
 
 abbrev pub wordOf : Token → List ℕ
-wordOf (Key word line at) = word .now
-wordOf (Weight word line at) = word .now
+wordOf (Key word place) = word .now
+wordOf (Weight word place) = word .now
 
 abbrev pub placeOf : Token → Place
-placeOf (Key word line at) = spot line at (word .now)
-placeOf (Weight word line at) = spot line at (word .now)
+placeOf (Key word place) = place
+placeOf (Weight word place) = place
 
 abbrev pub IsKey : Token → Type 0
-IsKey (Key word line at) = Unit {0}
-IsKey (Weight word line at) = ⊥
+IsKey (Key word place) = Unit {0}
+IsKey (Weight word place) = ⊥
 
 abbrev pub IsWeight : Token → Type 0
-IsWeight (Key word line at) = ⊥
-IsWeight (Weight word line at) = Unit {0}
+IsWeight (Key word place) = ⊥
+IsWeight (Weight word place) = Unit {0}
 
 -- the tokens of the line L, which begins at an offset
 pub record Tokens (L : List ℕ) (line at : ℕ) (t : Parts) : Type 0 where

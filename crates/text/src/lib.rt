@@ -1,9 +1,6 @@
-//! Board texts: their words, lines and faults, and the reader that hands on each join.
-pub mod census;
-pub mod faults;
+//! Board texts: their words and lines, and the reader that hands on each join.
 pub mod headers;
 mod lines;
 pub mod reader;
-pub mod summary;
 pub mod takers;
 mod words;

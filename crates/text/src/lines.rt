@@ -9,36 +9,28 @@ ghost use Rattle.std.specs.Written.{signed};
 ghost use Rattle.keys.specs.Keys.{NoKey};
 ghost use Rattle.keys.specs.Words.{Lacks};
 ghost use Rattle.keys.specs.declared.KeyRefusal.the-variants.{Malformed};
-ghost use Rattle.text.specs.Faults.{spot};
+ghost use Rattle.faults.specs.Faults.{spot};
 ghost use Rattle.text.specs.Joins.{Joins};
 ghost use Rattle.text.specs.Lines.{Short, NoWeight, Words, NoWords};
 ghost use Rattle.text.specs.Tokens.{wordOf, placeOf, IsKey, IsWeight, Tokens, Wrong};
-ghost use Rattle.text.specs.declared.faults.LineFault.the-variants.{Misformed};
-ghost use Rattle.text.specs.declared.faults.WordFault.the-variants.{Key, Weight};
-use crate::faults::Fault;
-use crate::faults::LineFault;
-use crate::faults::LineToFault;
-use crate::faults::Place;
-use crate::faults::WordFault;
-use crate::faults::WordToFault;
+ghost use Rattle.faults.specs.declared.refusals.LineFault.the-variants.{Misformed};
+ghost use Rattle.faults.specs.declared.refusals.WordFault.the-variants.{Key, Weight};
 use crate::takers::Join;
 use crate::words::cut;
 use crate::words::weight;
+use faults::Fault;
+use faults::LineFault;
+use faults::LineToFault;
+use faults::Place;
+use faults::WordFault;
+use faults::WordToFault;
 use keys::Spelled;
 
-/// A word of a join line: a part of the text, with its line and its offset.
+/// A word of a join line: a part of the text, with its place there.
 #[derive(Clone, Copy)]
 pub(crate) enum Token<'t> {
-    Key {
-        word: &'t [u8],
-        line: usize,
-        at: usize,
-    },
-    Weight {
-        word: &'t [u8],
-        line: usize,
-        at: usize,
-    },
+    Key { word: &'t [u8], place: Place },
+    Weight { word: &'t [u8], place: Place },
 }
 
 /// The tokens of a join line.
@@ -77,29 +69,23 @@ fn tokens<'t>(text: &'t [u8], line: usize, at: usize) -> Result<Parts<'t>, LineF
     match split(text) {
         Some((a, b, w)) => {
             let second = at + 5 + a.len() + 1;
+            let third = second + b.len() + 1;
             Ok(Parts {
                 first: Token::Key {
                     word: a,
-                    line,
-                    at: at + 5,
+                    place: Place::of(line, at + 5, a),
                 },
                 second: Token::Key {
                     word: b,
-                    line,
-                    at: second,
+                    place: Place::of(line, second, b),
                 },
                 weight: Token::Weight {
                     word: w,
-                    line,
-                    at: second + b.len() + 1,
+                    place: Place::of(line, third, w),
                 },
             })
         }
-        None => Err(LineFault::Misformed(Place {
-            line,
-            offset: at,
-            length: text.len(),
-        })),
+        None => Err(LineFault::Misformed(Place::of(line, at, text))),
     }
 }
 
@@ -109,16 +95,9 @@ fn key_of<K: Spelled>(token: Token<'_>) -> Result<K, WordFault>
     ensures { λ r. ⌜ Cases r (λ k. K·Spelled .spelled k ≡ wordOf (token .entry)) (λ e. NoKey (K·Spelled .spelled) (wordOf (token .entry)) × (e ≡ Key Malformed (placeOf (token .entry)))) ⌝ }
 {
     match token {
-        Token::Key { word, line, at } => match K::read(word) {
+        Token::Key { word, place } => match K::read(word) {
             Ok(key) => Ok(key),
-            Err(refusal) => Err(WordFault::Key(
-                refusal,
-                Place {
-                    line,
-                    offset: at,
-                    length: word.len(),
-                },
-            )),
+            Err(refusal) => Err(WordFault::Key(refusal, place)),
         },
         Token::Weight { .. } => unreachable(),
     }
@@ -130,13 +109,9 @@ fn weight_of(token: Token<'_>) -> Result<i32, WordFault>
     ensures { λ r. ⌜ Cases r (λ z. Short z × (signed z ≡ wordOf (token .entry))) (λ e. NoWeight (wordOf (token .entry)) × (e ≡ Weight (placeOf (token .entry)))) ⌝ }
 {
     match token {
-        Token::Weight { word, line, at } => match weight(word) {
+        Token::Weight { word, place } => match weight(word) {
             Some(z) => Ok(z),
-            None => Err(WordFault::Weight(Place {
-                line,
-                offset: at,
-                length: word.len(),
-            })),
+            None => Err(WordFault::Weight(place)),
         },
         Token::Key { .. } => unreachable(),
     }

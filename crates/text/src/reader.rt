@@ -3,28 +3,28 @@ ghost use mathlib.Core.List.{List, _++_, _∷_};
 ghost use mathlib.Core.Path.{_≡_};
 ghost use Prim.Native.Nat.{ℕ, _<_, _≤_};
 ghost use lib.ListN.{length};
+ghost use Rattle.std.specs.Orderings.{Decides};
 ghost use Rattle.std.specs.Results.{Cases};
-ghost use Rattle.std.specs.declared.result.Result.the-variants.{Ok};
 ghost use Rattle.keys.specs.Words.{Lacks};
-ghost use Rattle.text.specs.Boards.{setting, NoHeader, Outcome, OneList, OneOutcome, Written};
-ghost use Rattle.text.specs.Faults.{spot};
-ghost use Rattle.text.specs.Joins.{handed, Grows, Accepts};
+ghost use Rattle.text.specs.Boards.{Begins, setting, NoHeader, Told, Complete, OneList, OneOutcome};
+ghost use Rattle.faults.specs.Faults.{spot};
+ghost use Rattle.text.specs.Joins.{handed, Grows};
 ghost use Rattle.text.specs.Pieces.{NamedIn};
-ghost use Rattle.text.specs.declared.faults.LineFault.the-variants.{Misformed};
-use crate::faults::Fault;
-use crate::faults::JoinFault;
-use crate::faults::JoinToFault;
-use crate::faults::LineFault;
-use crate::faults::LineToFault;
-use crate::faults::Place;
-use crate::faults::SizeFault;
-use crate::faults::SizeToFault;
+ghost use Rattle.faults.specs.declared.refusals.LineFault.the-variants.{Misformed};
 use crate::lines::read_join;
 use crate::takers::Headed;
 use crate::takers::JobRefusal;
 use crate::takers::Join;
 use crate::takers::Taker;
 use crate::words::cut;
+use faults::Fault;
+use faults::JoinFault;
+use faults::JoinToFault;
+use faults::LineFault;
+use faults::LineToFault;
+use faults::Place;
+use faults::SizeFault;
+use faults::SizeToFault;
 
 /// The most bytes of a text that is read.
 pub const LIMIT: usize = 60_000;
@@ -39,6 +39,16 @@ fn measure(text: &[u8]) -> Result<(), SizeFault>
     Ok(())
 }
 
+/// Whether the first line of a text is the header of these keys.
+pub fn begins<K: Headed>(text: &[u8]) -> bool
+    ensures { λ r. ⌜ Decides r (Begins (K·Headed .header) (now (text .entry))) ⌝ }
+{
+    match cut(text, b'\n') {
+        Some((line, _)) => line == K::header(),
+        None => false,
+    }
+}
+
 /// What stands after the header.
 fn after_header<K: Headed>(text: &[u8]) -> Result<&[u8], LineFault>
     ensures { λ r. ⌜ Cases r (λ rest. now (text .entry) ≡ K·Headed .header ++ 10 ∷ rest .now) (λ e. ((p : Place) × NoHeader (K·Headed .header) (now (text .entry)) p × (e ≡ Misformed p))) ⌝ }
@@ -46,19 +56,11 @@ fn after_header<K: Headed>(text: &[u8]) -> Result<&[u8], LineFault>
     match cut(text, b'\n') {
         Some((line, rest)) => {
             if line != K::header() {
-                return Err(LineFault::Misformed(Place {
-                    line: 1,
-                    offset: 0,
-                    length: line.len(),
-                }));
+                return Err(LineFault::Misformed(Place::of(1, 0, line)));
             }
             Ok(rest)
         }
-        None => Err(LineFault::Misformed(Place {
-            line: 1,
-            offset: 0,
-            length: text.len(),
-        })),
+        None => Err(LineFault::Misformed(Place::of(1, 0, text))),
     }
 }
 
@@ -68,11 +70,7 @@ fn next_line<'t>(rest: &'t [u8], line: usize, at: usize) -> Result<(&'t [u8], &'
 {
     match cut(rest, b'\n') {
         Some(parts) => Ok(parts),
-        None => Err(LineFault::Misformed(Place {
-            line,
-            offset: at,
-            length: rest.len(),
-        })),
+        None => Err(LineFault::Misformed(Place::of(line, at, rest))),
     }
 }
 
@@ -92,7 +90,7 @@ fn hand_on<T: Taker>(taker: &mut T, join: Join<T::Key>, place: Place) -> Result<
 
 /// The lines of a text one after the other, up to its end or the first fault.
 fn read_through<T: Taker>(text: &[u8], taker: &mut T) -> Result<usize, Fault>
-    ensures told { λ r. ⌜ ((before : List (Join T·Key)) → taken (now (taker .entry)) before → ((after : List (Join T·Key)) × Outcome (setting (Key·Spelled .spelled) (Key·Headed .header) rule (Refusal·JobRefusal .numbered)) (now (text .entry)) before after r × taken (now (taker .exit)) after)) ⌝ }
+    ensures told { λ r. ⌜ Told (setting (Key·Spelled .spelled) (Key·Headed .header) rule (Refusal·JobRefusal .numbered)) (taken (now (taker .entry))) (taken (now (taker .exit))) (now (text .entry)) r ⌝ }
 {
     measure(text)?;
     let mut rest = after_header::<T::Key>(text)?;
@@ -101,15 +99,7 @@ fn read_through<T: Taker>(text: &[u8], taker: &mut T) -> Result<usize, Fault>
     while rest.len() > 0 {
         let (bytes, after) = next_line(rest, line, at)?;
         let join = read_join(bytes, line, at)?;
-        hand_on(
-            taker,
-            join,
-            Place {
-                line,
-                offset: at,
-                length: bytes.len(),
-            },
-        )?;
+        hand_on(taker, join, Place::of(line, at, bytes))?;
         at += bytes.len() + 1;
         line += 1;
         rest = after;
@@ -119,11 +109,11 @@ fn read_through<T: Taker>(text: &[u8], taker: &mut T) -> Result<usize, Fault>
 
 /// Reads a text and hands on its joins one after the other, up to the first fault; answers how many joins it has.
 pub fn read<T: Taker>(text: &[u8], taker: &mut T) -> Result<usize, Fault>
-    ensures told { λ r. ⌜ ((before : List (Join T·Key)) → taken (now (taker .entry)) before → ((after : List (Join T·Key)) × Outcome (setting (Key·Spelled .spelled) (Key·Headed .header) rule (Refusal·JobRefusal .numbered)) (now (text .entry)) before after r × taken (now (taker .exit)) after)) ⌝ }
+    ensures told { λ r. ⌜ Told (setting (Key·Spelled .spelled) (Key·Headed .header) rule (Refusal·JobRefusal .numbered)) (taken (now (taker .entry))) (taken (now (taker .exit))) (now (text .entry)) r ⌝ }
     ensures one { λ _. ⌜ OneOutcome (setting (Key·Spelled .spelled) (Key·Headed .header) rule (Refusal·JobRefusal .numbered)) (now (text .entry)) ⌝ }
-    ensures accepts { λ r. ⌜ ((before js : List (Join T·Key)) → taken (now (taker .entry)) before → length (now (text .entry)) ≤ 60000 → Written (Key·Spelled .spelled) (Key·Headed .header) js (now (text .entry)) → Accepts rule before js → (r ≡ Ok (length js)) × taken (now (taker .exit)) (before ++ js)) ⌝ }
+    ensures complete { λ r. ⌜ Complete (setting (Key·Spelled .spelled) (Key·Headed .header) rule (Refusal·JobRefusal .numbered)) (taken (now (taker .entry))) (taken (now (taker .exit))) (now (text .entry)) r ⌝ }
     ensures unique { λ _. ⌜ OneList (Key·Spelled .spelled) (Key·Headed .header) (now (text .entry)) ⌝ }
-    ensures names { λ r. ⌜ ((before : List (Join T·Key)) → taken (now (taker .entry)) before → NamedIn (Key·Spelled .spelled) (now (text .entry)) r) ⌝ }
+    ensures named { λ r. ⌜ NamedIn (Key·Spelled .spelled) (taken (now (taker .entry))) (now (text .entry)) r ⌝ }
 {
     read_through(text, taker)
 }

@@ -1,11 +1,11 @@
 //! Joins, and what takes them.
+ghost use mathlib.Core.Bool.{true};
 ghost use mathlib.Core.List.{List};
 ghost use mathlib.Core.Path.{_≡_};
 ghost use Prim.Native.Nat.{ℕ, _≤_};
 ghost use Rattle.std.specs.declared.option.Option.{Option};
 ghost use Rattle.text.specs.Joins.{Answers, Grows};
 ghost use Rattle.text.specs.Lines.{lacks};
-ghost use mathlib.Core.Bool.{true};
 ghost use Rattle.text.specs.declared.takers.Join.{Join};
 use keys::Spelled;
 
@@ -46,13 +46,13 @@ pub trait Taker {
 
     type Refusal: JobRefusal + Drop;
 
-    /// The joins that were taken, in order.
+    /// The joins that were taken, in order: a list, or those lists that the taker cannot tell apart.
     ghost taken: { Self → List (Join Self·Key) → Type 0 };
 
-    /// Why the next join is refused, where some were taken.
+    /// Why the next join is refused after those, if it is.
     ghost rule: { List (Join Self·Key) → Join Self·Key → Option Self·Refusal };
 
-    /// Takes the join, or refuses it and stays as it was.
+    /// Takes the join, or refuses it and has taken what it had.
     fn take(&mut self, join: Join<Self::Key>) -> Result<(), Self::Refusal>
         ensures answers { λ r. ⌜ Answers (taken (now (self .entry))) rule join r ⌝ }
         ensures grows { λ r. ⌜ Grows (taken (now (self .entry))) (taken (now (self .exit))) join r ⌝ };

@@ -56,7 +56,7 @@ pub(crate) fn weight(word: &[u8]) -> Option<i32>
     if word.len() > 0 && word[0] == b'-' {
         let n = size(&word[1..])?;
         if n == 0 {
-            return None;
+            return None; // 0 has no sign
         }
         return Some(0 - n as i32);
     }

@@ -7,6 +7,8 @@ mod tests {
     use crate::desk::Desk;
     use crate::desk::DeskTaker;
     use crate::tables::*;
+    use faults::FaultDisplay;
+    use faults::piece;
     use keys::Key;
     use keys::KeyRefusal;
     use keys::KeyRefusalDebug;
@@ -21,11 +23,9 @@ mod tests {
     use std::alloc::AllocError;
     use std::alloc::Global;
     use std::test::*;
-    use text::faults::FaultDisplay;
-    use text::faults::piece;
+    use survey::summary::SummaryDisplay;
+    use survey::summary::summarize;
     use text::reader::read;
-    use text::summary::SummaryDisplay;
-    use text::summary::summarize;
 
     // What the program prints of a text, and the piece that its fault names.
     fn told(heap: Global, text: &[u8]) -> Result<(String, &[u8]), AllocError> {
@@ -83,10 +83,16 @@ mod tests {
     fn lengths(rt: LibcRuntime) -> Result<(), Fail> {
         let most = long(rt.alloc(), b"join aaaaaa b 1\n")?;
         check_eq(most.len(), 60_000)?;
-        check_eq(told(rt.alloc(), most.as_slice())?.0.as_str(), "board names\njoins 5453\nsizes 5453")?;
+        check_eq(
+            told(rt.alloc(), most.as_slice())?.0.as_str(),
+            "board names\njoins 5453\nsizes 5453",
+        )?;
         let over = long(rt.alloc(), b"join aaaaaaa b 1\n")?;
         check_eq(over.len(), 60_001)?;
-        check_eq(told(rt.alloc(), over.as_slice())?.0.as_str(), "fault text 14 0 0 0")
+        check_eq(
+            told(rt.alloc(), over.as_slice())?.0.as_str(),
+            "fault text 14 0 0 0",
+        )
     }
 
     #[test]
@@ -120,11 +126,36 @@ mod tests {
     fn refused_joins(rt: LibcRuntime) -> Result<(), Fail> {
         let cases = [
             ("board names\njoin a b 1\njoin b c 2\n", "", "", 2),
-            ("board names\njoin a A 1\n", "fault job 22 2 12 10", "join a A 1", 0),
-            ("board names\njoin a b 1\njoin x_9 X_9 2\njoin c d 3\n", "fault job 22 3 23 14", "join x_9 X_9 2", 1),
-            ("board names\njoin a b 1\njoin b c 2\njoin c d -3\n", "fault job 24 4 34 11", "join c d -3", 2),
-            ("board names\njoin a b 1\njoin b c 2\njoin c d- 3\n", "fault text 12 4 41 2", "d-", 2),
-            ("board numbers\njoin 1 2 3\n", "fault text 11 1 0 13", "board numbers", 0),
+            (
+                "board names\njoin a A 1\n",
+                "fault job 22 2 12 10",
+                "join a A 1",
+                0,
+            ),
+            (
+                "board names\njoin a b 1\njoin x_9 X_9 2\njoin c d 3\n",
+                "fault job 22 3 23 14",
+                "join x_9 X_9 2",
+                1,
+            ),
+            (
+                "board names\njoin a b 1\njoin b c 2\njoin c d -3\n",
+                "fault job 24 4 34 11",
+                "join c d -3",
+                2,
+            ),
+            (
+                "board names\njoin a b 1\njoin b c 2\njoin c d- 3\n",
+                "fault text 12 4 41 2",
+                "d-",
+                2,
+            ),
+            (
+                "board numbers\njoin 1 2 3\n",
+                "fault text 11 1 0 13",
+                "board numbers",
+                0,
+            ),
         ];
         for (text, line, part, joins) in cases {
             at_desk(rt.alloc(), text, line, part, joins)?;
@@ -141,7 +172,14 @@ mod tests {
 
     #[test]
     fn names() -> Result<(), Fail> {
-        let pairs = [("gnd", "GND", true), ("Clk_1", "cLK_1", true), ("a", "b", false), ("a", "aa", false), ("a_b", "a_c", false), ("1", "01", false)];
+        let pairs = [
+            ("gnd", "GND", true),
+            ("Clk_1", "cLK_1", true),
+            ("a", "b", false),
+            ("a", "aa", false),
+            ("a_b", "a_c", false),
+            ("1", "01", false),
+        ];
         for (a, b, same) in pairs {
             check_eq(same_net(a, b)?, same).note(a)?;
         }
@@ -171,7 +209,6 @@ mod tests {
         }
         for n in [1, 7, 999_999_999] {
             let key = NumberKey::new(n)?;
-            check_eq(key.value() as u64, n)?;
             check_eq(key.home(), n)?;
             check(key.is_same(&key))?;
         }

@@ -8,8 +8,8 @@ add-second-in-Some c = omega (arith, spaced-length (c .in-Some .ensures tt), c .
 pub add-second-in-Some-2 : need.add-second-in-Some-2
 add-second-in-Some-2 c = omega (arith, spaced-length (c .in-Some .ensures tt), c .pre)
 
-pub add-result-in-Some : need.add-result-in-Some
-add-result-in-Some c = omega (arith, spaced-length (c .in-Some .ensures tt), c .pre)
+pub add-third : need.add-third
+add-third c = omega (arith, spaced-length (c .in-Some .ensures tt), c .pre)
 
-pub add-result-in-Some-2 : need.add-result-in-Some-2
-add-result-in-Some-2 c = omega (arith, spaced-length (c .in-Some .ensures tt), c .pre)
+pub add-third-in-Some : need.add-third-in-Some
+add-third-in-Some c = omega (arith, spaced-length (c .in-Some .ensures tt), c .pre)

@@ -17,10 +17,10 @@ returns g c =
     record {
       told = told;
       one = one;
-      accepts = λ before js h short w ok.
+      complete = λ before js h short w ok.
           let t = told before h in
           let p = one before (t .0) (before ++ js) _ _ (t .1) (reading js [] short (w .whole ∙ sym (append-nil _)) (w .fine) ok refl (ended refl refl)) in
           (p .0, subst (g .T·Taker .taken (c .read-through .last .taker)) (p .1) (t .2));
       unique = one-list (g .Key·Spelled .spelled) (g .Key·Spelled·met .word) (g .Key·Spelled·met .apart) (g .Key·Headed .header) text;
-      names = λ before h. let t = told before h in named-outcome s (g .Refusal·JobRefusal·met .within) text before (t .0) (c .read-through .result) (t .1);
+      named = λ before h. let t = told before h in named-outcome s (g .Refusal·JobRefusal·met .within) text before (t .0) (c .read-through .result) (t .1);
     }

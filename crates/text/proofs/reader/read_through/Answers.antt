@@ -6,8 +6,8 @@ use Rattle.std.specs.declared.result.Result.the-variants.{Ok, Err}
 use Rattle.std.proofs.shelf.Lists.{append-nil, append-assoc, length-append, nil-from-length}
 use Rattle.std.proofs.shelf.Results.{err-from-errBy}
 use Rattle.text.specs.Boards.{headless, reading, ended, unended, wrong, refused}
-use Rattle.text.specs.Faults.{ofLine, ofJoin}
-use Rattle.text.specs.declared.faults.LineFault.the-variants.{Misformed}
+use Rattle.faults.specs.Faults.{ofLine, ofJoin}
+use Rattle.faults.specs.declared.refusals.LineFault.the-variants.{Misformed}
 use Rattle.text.proofs.Reading.{begun, more, bounds, located, wrong-here, lines-read, handed-ok, handed-err, accepts-more}
 use Rattle.text.proofs.reader.read_through.Needs as need
 
@@ -66,7 +66,7 @@ returns-in-Break-hand-on g c =
       told = λ before h.
           let t = i .2 before h in
           let x = handed-err (g .Refusal·JobRefusal .numbered) _ _ _ (a .answers (before ++ i .0) (t .1)) in
-          (before ++ i .0, reading (i .0) _ (c .in-Continue-measure .ensures tt) (d .whole) (d .fine) (t .0) refl (refused _ _ (c .in-Continue-join .join) (x .0) (e .0) (e .1) (c .in-Continue-join .ensures tt) (x .1) (p .1 ∙ ap Err (p .2 ∙ ap ofJoin (x .2) ∙ ap (λ q. ofJoin (record { number = g .Refusal·JobRefusal .numbered (x .0); place = q })) (located d (c .in-Continue-bytes .bytes .now))))), a .grows (before ++ i .0) (t .1));
+          (before ++ i .0, reading (i .0) _ (c .in-Continue-measure .ensures tt) (d .whole) (d .fine) (t .0) refl (refused _ _ (c .in-Continue-join .join) (x .0) (e .0) (e .1) (c .in-Continue-join .ensures tt) (x .1) (p .1 ∙ ap Err (p .2 ∙ ap ofJoin (x .2) ∙ ap (λ q. ofJoin (record { number = g .Refusal·JobRefusal .numbered (x .0); place = q })) (c .of .ensures ∙ located d (c .in-Continue-bytes .bytes .now))))), a .grows (before ++ i .0) (t .1));
     }
 
 pub add-at-in-loop-rest : need.add-at-in-loop-rest

@@ -1,0 +1,3 @@
+pub mod Counts
+pub mod Summing
+pub mod Totals
