@@ -1,5 +1,5 @@
 -- The number, the layer and the place of each refusal. Assumes nothing.
-use mathlib.Core.List.{List, [], _∷_, _++_}
+use mathlib.Core.List.{List, _∷_, _++_}
 use Prim.Native.Nat.{ℕ, _≤_}
 use lib.Chars.{codes}
 use lib.ListN.{length, take, drop}

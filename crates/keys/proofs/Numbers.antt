@@ -1,10 +1,10 @@
 -- Which words `natural` reads. Assumes nothing.
-use mathlib.Core.Path.{_≡_, refl, sym, ap, subst, _∙_}
-use mathlib.Core.List.{List, [], _∷_, _++_}
-use Prim.Native.Nat.{ℕ, zero, suc, _+_, _*_, _^_, _<_, _≤_}
-use native.Mathlib.Nat.{lt-of-lt-of-le, lt-trans, le-trans, pow-le-pow-right, zero-lt-suc}
+use mathlib.Core.Path.{_≡_, refl, ap, subst, _∙_}
+use mathlib.Core.List.{List}
+use Prim.Native.Nat.{ℕ, zero, suc, _^_, _<_, _≤_}
+use native.Mathlib.Nat.{lt-of-lt-of-le, lt-trans, pow-le-pow-right, zero-lt-suc}
 use native.Mathlib.Omega.{arith}
-use lib.Dec.{lit≤, lit<}
+use lib.Dec.{lit<}
 use lib.ListN.{length, getD, take}
 use Rattle.std.specs.Reads.{Digits, value}
 use Rattle.std.specs.Written.{decimal}

@@ -1,5 +1,5 @@
 -- Keys are spelled by words, each by its own. Assumes nothing.
-use mathlib.Core.Bool.{Bool, Bool-set, true, false, _&&_}
+use mathlib.Core.Bool.{Bool-set, true, false, _&&_}
 use mathlib.Core.HLevel.{isProp→PathP}
 use mathlib.Core.List.{List, List·isSet, [], _∷_, _++_}
 use mathlib.Core.Path.{_≡_, refl, sym, ap, subst, _∙_}
@@ -8,7 +8,7 @@ use native.Mathlib.Bridge.{le-prop}
 use native.Mathlib.Nat.{ℕ-set}
 use native.Mathlib.Omega.{arith}
 use lib.Dec.{leb}
-use lib.ListN.{length, getD, take, drop, replicate}
+use lib.ListN.{length, getD, drop, replicate}
 use Rattle.std.specs.Written.{decimal}
 use Rattle.std.specs.Results.{Cases}
 use Rattle.std.specs.Text.{In}

@@ -2,9 +2,10 @@
 ghost use mathlib.Core.Bool.{true};
 ghost use mathlib.Core.List.{map};
 ghost use mathlib.Core.Path.{_≡_};
-ghost use Prim.Native.Nat.{ℕ};
+ghost use Rattle.std.specs.Results.{isOk};
 ghost use Rattle.std.specs.Text.{lower};
 ghost use Rattle.std.specs.shelf.Text.{sameBytes};
+ghost use Rattle.keys.specs.Keys.{ReadAs};
 ghost use Rattle.keys.specs.Names.{isName, homeFrom, nameByte, allName};
 ghost use Rattle.keys.specs.Spellings.{bytesOf};
 use crate::Key;
@@ -64,7 +65,10 @@ pub impl Key for NameKey as NameKeyKey {
 pub impl Spelled for NameKey as NameKeySpelled {
     ghost spelled = { λ k. bytesOf (k .text) };
 
-    fn read(word: &[u8]) -> Result<NameKey, KeyRefusal> {
+    fn read(word: &[u8]) -> Result<NameKey, KeyRefusal>
+        ensures key { λ r. ⌜ ReadAs (λ k. bytesOf (k .text)) (now (word .entry)) r ⌝ }
+        ensures form { λ r. ⌜ isOk r ≡ isName (now (word .entry)) ⌝ }
+    {
         if word.len() == 0 || !all_name(word) {
             return Err(KeyRefusal::Malformed);
         }

@@ -1,6 +1,6 @@
 //! The word that spells a key: at most 12 bytes, held in place.
 ghost use mathlib.Core.Path.{_≡_};
-ghost use Prim.Native.Nat.{ℕ, _-_, _<_, _≤_};
+ghost use Prim.Native.Nat.{_-_, _<_, _≤_};
 ghost use lib.ListN.{length, take, drop, replicate};
 ghost use Rattle.std.specs.Options.{Cases as BySome};
 

@@ -6,8 +6,8 @@ use native.Mathlib.Omega.{arith}
 use lib.IntN.{natAbs}
 use lib.ListN.{length}
 use Rattle.std.proofs.shelf.Lists.{length-push}
-use Rattle.survey.specs.Census.{capped, sizesOf, Counted}
 use Rattle.text.specs.declared.takers.Join.{Join}
+use Rattle.survey.specs.Census.{capped, sizesOf, Counted}
 
 sizes-more : {K : Type 0} (js : List (Join K)) (j : Join K) → sizesOf (js ++ j ∷ []) ≡ sizesOf js + natAbs (j .weight)
 sizes-more [] j = omega arith

@@ -1,24 +1,22 @@
 -- A text that writes joins is summed up as they are. Assumes nothing.
 use mathlib.Core.List.{List, [], _∷_, _++_}
-use mathlib.Core.Path.{_≡_, refl, sym, ap, subst, _∙_}
+use mathlib.Core.Path.{_≡_, refl, sym, ap, _∙_}
 use Prim.Native.Nat.{ℕ, _≤_}
-use native.Mathlib.Omega.{arith}
-use lib.Chars.{codes}
 use lib.ListN.{length}
 use Rattle.std.specs.Joined.{joined}
 use Rattle.std.specs.declared.result.Result.{Result}
 use Rattle.std.specs.declared.result.Result.the-variants.{Ok}
 use Rattle.std.proofs.shelf.Lists.{append-nil, append-assoc}
 use Rattle.keys.specs.Words.{Lacks, Word}
+use Rattle.faults.specs.declared.places.Fault.{Fault}
 use Rattle.text.specs.Boards.{Begins, lineOf, Written, reading, ended}
 use Rattle.text.specs.Joins.{Accepts}
-use Rattle.survey.specs.Summaries.{allTaken, summary, summaryOf, Summed}
-use Rattle.faults.specs.declared.places.Fault.{Fault}
-use Rattle.survey.specs.declared.summary.Kind.{Kind}
-use Rattle.survey.specs.declared.summary.Summary.{Summary}
 use Rattle.text.specs.declared.takers.Join.{Join}
 use Rattle.text.proofs.Cuts.{same-cut}
 use Rattle.text.proofs.Only.{one-outcome}
+use Rattle.survey.specs.Summaries.{allTaken, summary, summaryOf, Summed}
+use Rattle.survey.specs.declared.summary.Kind.{Kind}
+use Rattle.survey.specs.declared.summary.Summary.{Summary}
 
 module _ {K : Type 0} (spelled : K → List ℕ) (header : List ℕ) where
   all-accepted : (before js : List (Join K)) → Accepts (allTaken spelled header .rule) before js

@@ -1,23 +1,22 @@
 -- What a text hands on is counted in full. Assumes nothing.
-use mathlib.Core.List.{List, [], _∷_, _++_}
-use mathlib.Core.Path.{_≡_, refl, sym, ap, subst, _∙_}
-use Prim.Native.Nat.{ℕ, suc, _+_, _-_, _*_, _^_, _<_, _≤_, min}
+use mathlib.Core.List.{List, [], _∷_}
+use mathlib.Core.Path.{_≡_, sym, ap, subst}
+use Prim.Native.Nat.{ℕ, _*_, _^_, _<_, _≤_}
 use native.Mathlib.Omega.{arith}
 use lib.IntN.{ℤ, pos, negsuc, natAbs}
 use lib.ListN.{length}
 use Rattle.std.specs.Vec.{Every}
 use Rattle.std.specs.declared.result.Result.{Result}
-use Rattle.std.specs.declared.result.Result.the-variants.{Ok, Err}
 use Rattle.std.proofs.shelf.Lists.{length-append}
-use Rattle.text.specs.Boards.{Setting, written, Fine, Outcome, oversize, headless, reading}
-use Rattle.survey.specs.Census.{capped, sizesOf, Counted}
-use Rattle.text.specs.Lines.{Short}
-use Rattle.survey.specs.Summaries.{summary}
 use Rattle.faults.specs.declared.places.Fault.{Fault}
-use Rattle.survey.specs.declared.summary.Kind.{Kind}
-use Rattle.survey.specs.declared.summary.Summary.{Summary}
+use Rattle.text.specs.Boards.{Setting, written, Fine, Outcome, oversize, headless, reading}
+use Rattle.text.specs.Lines.{Short}
 use Rattle.text.specs.declared.takers.Join.{Join}
 use Rattle.text.proofs.Reading.{few-joins}
+use Rattle.survey.specs.Census.{sizesOf, Counted}
+use Rattle.survey.specs.Summaries.{summary}
+use Rattle.survey.specs.declared.summary.Kind.{Kind}
+use Rattle.survey.specs.declared.summary.Summary.{Summary}
 
 short-size : (z : ℤ) → Short z → natAbs z < 10 ^ 7
 short-size (pos n) h = h

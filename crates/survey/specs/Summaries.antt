@@ -11,14 +11,14 @@ use Rattle.std.specs.declared.result.Result.the-variants.{Ok, Err}
 use Rattle.keys.specs.Spellings.{bytesOf}
 use Rattle.keys.specs.declared.name.NameKey.{NameKey}
 use Rattle.keys.specs.declared.number.NumberKey.{NumberKey}
+use Rattle.faults.specs.declared.places.Fault.{Fault}
 use Rattle.text.specs.Boards.{Begins, Setting, Outcome}
+use Rattle.text.specs.declared.takers.Join.{Join}
 use Rattle.survey.specs.Census.{sizesOf}
 use Rattle.survey.specs.declared.census.Never.{Never}
-use Rattle.faults.specs.declared.places.Fault.{Fault}
 use Rattle.survey.specs.declared.summary.Kind.{Kind}
 use Rattle.survey.specs.declared.summary.Kind.the-variants.{Names, Numbers}
 use Rattle.survey.specs.declared.summary.Summary.{Summary}
-use Rattle.text.specs.declared.takers.Join.{Join}
 
 abbrev pub kindWord : Kind → List ℕ
 kindWord Names = codes "names"

@@ -1,9 +1,8 @@
 //! The simplest taker: it counts joins and adds up the sizes of their weights.
 ghost use mathlib.Core.Path.{_≡_};
-ghost use Prim.Native.Nat.{ℕ};
 ghost use Rattle.std.specs.declared.option.Option.the-variants.{None};
-ghost use Rattle.survey.specs.Census.{Counted};
 ghost use Rattle.text.specs.Joins.{Answers, Grows};
+ghost use Rattle.survey.specs.Census.{Counted};
 use keys::Spelled;
 use std::marker::PhantomData;
 use text::takers::Headed;

@@ -1,7 +1,7 @@
 //! What a board text holds, in three lines.
-ghost use mathlib.Core.List.{List, [], _++_, _∷_};
+ghost use mathlib.Core.List.{List};
 ghost use mathlib.Core.Path.{_≡_};
-ghost use Prim.Native.Nat.{ℕ, _≤_};
+ghost use Prim.Native.Nat.{_≤_};
 ghost use lib.Chars.{codes};
 ghost use lib.ListN.{length};
 ghost use Rattle.std.specs.Written.{decimal};
@@ -11,9 +11,9 @@ ghost use Rattle.keys.specs.Spellings.{bytesOf};
 ghost use Rattle.keys.specs.declared.name.NameKey.{NameKey};
 ghost use Rattle.keys.specs.declared.number.NumberKey.{NumberKey};
 ghost use Rattle.text.specs.Boards.{Written};
+ghost use Rattle.text.specs.declared.takers.Join.{Join};
 ghost use Rattle.survey.specs.Summaries.{Summed, Summarized, summary, kindWord, summaryText};
 ghost use Rattle.survey.specs.declared.summary.Kind.the-variants.{Names, Numbers};
-ghost use Rattle.text.specs.declared.takers.Join.{Join};
 use crate::census::Census;
 use crate::census::CensusTaker;
 use faults::Fault;

@@ -1,10 +1,9 @@
 -- A line writes one join or has one fault, and a text has one outcome. Assumes nothing.
 use mathlib.Core.List.{List, [], _∷_, _++_}
 use mathlib.Core.Path.{_≡_, refl, sym, ap, subst, _∙_}
-use Prim.Native.Nat.{ℕ, suc, _+_, _<_, _≤_}
+use Prim.Native.Nat.{ℕ, _+_}
 use native.Mathlib.Omega.{arith}
 use lib.Chars.{codes}
-use lib.IntN.{ℤ}
 use lib.ListN.{length}
 use Rattle.std.specs.Joined.{joined}
 use Rattle.std.specs.Vec.{Every}
@@ -12,22 +11,20 @@ use Rattle.std.specs.Written.{signed}
 use Rattle.std.specs.declared.option.Option.{Option}
 use Rattle.std.specs.declared.option.Option.the-variants.{Some, None}
 use Rattle.std.specs.declared.result.Result.{Result}
-use Rattle.std.specs.declared.result.Result.the-variants.{Ok, Err}
+use Rattle.std.specs.declared.result.Result.the-variants.{Err}
 use Rattle.std.proofs.shelf.Decimals.{same-from-signed}
 use Rattle.std.proofs.shelf.Lists.{append-assoc, append-nil, append-cancel-left, length-append}
-use Rattle.keys.specs.Keys.{NoKey}
 use Rattle.keys.specs.Words.{Lacks, Word}
 use Rattle.keys.specs.declared.KeyRefusal.the-variants.{Malformed}
-use Rattle.text.specs.Boards.{Setting, lineOf, written, Fine, OneList, NoHeader, other, Stop, ended, unended, wrong, refused, Outcome, oversize, headless, reading, OneOutcome}
-use Rattle.text.specs.Boards as boards
 use Rattle.faults.specs.Faults.{placed, ofLine, ofWord, ofJoin}
-use Rattle.text.specs.Joins.{Accepts, Joins}
-use Rattle.text.specs.Lines.{Short, spaced, Words}
-use Rattle.text.specs.Tokens.{Wrong, misformed, first-malformed, second-malformed, weight-malformed, beforeFirst, beforeSecond, beforeWeight}
 use Rattle.faults.specs.declared.places.Fault.{Fault}
 use Rattle.faults.specs.declared.refusals.LineFault.the-variants.{Misformed}
 use Rattle.faults.specs.declared.places.Place.{Place}
 use Rattle.faults.specs.declared.refusals.WordFault.the-variants.{Key, Weight}
+use Rattle.text.specs.Boards.{Setting, lineOf, written, Fine, OneList, NoHeader, endless, other, Stop, ended, unended, wrong, refused, oversize, headless, reading, OneOutcome}
+use Rattle.text.specs.Joins.{Accepts, Joins}
+use Rattle.text.specs.Lines.{spaced, Words}
+use Rattle.text.specs.Tokens.{Wrong, misformed, first-malformed, second-malformed, weight-malformed, beforeFirst, beforeSecond, beforeWeight}
 use Rattle.text.specs.declared.takers.Join.{Join}
 use Rattle.text.proofs.Cuts.{uncut, same-cut, lacks-cons, lacks-append, lacks-by}
 use Rattle.text.proofs.Split.{found-all}
@@ -197,13 +194,13 @@ module _ {K R : Type 0} (s : Setting K R) (word : (k : K) → Word (s .spelled k
     headed js rest e = e ∙ append-assoc (s .header ++ 10 ∷ []) (joined (lineOf (s .spelled)) js) rest ∙ append-assoc (s .header) (10 ∷ []) (joined (lineOf (s .spelled)) js ++ rest)
 
     no-headless : (p : Place) (js : List (Join K)) (rest : List ℕ) → text ≡ written (s .spelled) (s .header) js ++ rest → NoHeader (s .header) text p → ⊥
-    no-headless p js rest e (boards.NoHeader.unended lacks is) = uncut 10 (s .header) _ (subst (Lacks 10) (headed js rest e) lacks)
+    no-headless p js rest e (endless lacks is) = uncut 10 (s .header) _ (subst (Lacks 10) (headed js rest e) lacks)
     no-headless p js rest e (other L more at lacks ne is) = ne (same-cut 10 L (s .header) more _ lacks single (sym at ∙ headed js rest e) .0)
 
     headless-only : (p p′ : Place) → NoHeader (s .header) text p → NoHeader (s .header) text p′ → p ≡ p′
-    headless-only p p′ (boards.NoHeader.unended lacks is) (boards.NoHeader.unended lacks′ is′) = is ∙ sym is′
-    headless-only p p′ (boards.NoHeader.unended none is) (other L more at lacks ne is′) = absurd (uncut 10 L more (subst (Lacks 10) at none))
-    headless-only p p′ (other L more at lacks ne is) (boards.NoHeader.unended none is′) = absurd (uncut 10 L more (subst (Lacks 10) at none))
+    headless-only p p′ (endless lacks is) (endless lacks′ is′) = is ∙ sym is′
+    headless-only p p′ (endless none is) (other L more at lacks ne is′) = absurd (uncut 10 L more (subst (Lacks 10) at none))
+    headless-only p p′ (other L more at lacks ne is) (endless none is′) = absurd (uncut 10 L more (subst (Lacks 10) at none))
     headless-only p p′ (other L more at lacks ne is) (other L′ more′ at′ lacks′ ne′ is′) =
         is ∙ ap (placed 1 []) (same-cut 10 L L′ more more′ lacks lacks′ (sym at ∙ at′) .0) ∙ sym is′
 

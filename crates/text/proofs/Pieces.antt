@@ -1,29 +1,24 @@
 -- The piece that a fault names is what was refused. Assumes nothing.
 use mathlib.Core.List.{List, [], _∷_, _++_}
-use mathlib.Core.Logic.{_⊎_, inl, inr}
+use mathlib.Core.Logic.{inl, inr}
 use mathlib.Core.Path.{_≡_, refl, sym, ap, subst, _∙_}
 use Prim.Native.Nat.{ℕ, _+_, _≤_}
 use native.Mathlib.Omega.{arith}
-use lib.Chars.{codes}
 use lib.Dec.{lit≤}
 use lib.ListN.{length, take, drop}
 use Rattle.std.specs.Joined.{joined}
 use Rattle.std.specs.Written.{signed}
 use Rattle.std.specs.declared.result.Result.{Result}
-use Rattle.std.specs.declared.result.Result.the-variants.{Ok, Err}
 use Rattle.std.proofs.shelf.Lists.{append-assoc, append-nil, take-at, drop-at}
 use Rattle.keys.specs.Keys.{NoKey}
-use Rattle.keys.specs.Words.{Lacks}
-use Rattle.text.specs.Boards.{Setting, lineOf, written, NoHeader, other, Stop, ended, unended, wrong, refused, Outcome, oversize, headless, reading}
-use Rattle.text.specs.Boards as boards
-use Rattle.faults.specs.Faults.{fault, placed, pieceOf, ofLine, ofWord, ofJoin}
+use Rattle.faults.specs.Faults.{fault, placed}
+use Rattle.faults.specs.declared.places.Fault.{Fault}
+use Rattle.faults.specs.declared.places.Layer.the-variants.{Text, Job}
+use Rattle.faults.specs.declared.places.Place.{Place}
+use Rattle.text.specs.Boards.{Setting, lineOf, written, NoHeader, endless, other, Stop, ended, unended, wrong, refused, Outcome, oversize, headless, reading}
 use Rattle.text.specs.Lines.{NoWeight, spaced, Words}
 use Rattle.text.specs.Pieces.{LineOf, Named, NamedBy}
 use Rattle.text.specs.Tokens.{Wrong, misformed, first-malformed, second-malformed, weight-malformed, beforeFirst, beforeSecond, beforeWeight}
-use Rattle.faults.specs.declared.places.Fault.{Fault}
-use Rattle.faults.specs.declared.places.Layer.{Layer}
-use Rattle.faults.specs.declared.places.Layer.the-variants.{Text, Job}
-use Rattle.faults.specs.declared.places.Place.{Place}
 use Rattle.text.specs.declared.takers.Join.{Join}
 
 other-layer : Text ≡ Job → ⊥
@@ -141,7 +136,7 @@ module _ {K R : Type 0} (s : Setting K R) (within : (e : R) → (21 ≤ s .numbe
       named-join (s .spelled) text steps (s .numbered x) (length js + 2) F L (10 ∷ more) (within x) at (record { front = F; back = 10 ∷ more; whole = at; starts = inr (lines-end (s .spelled) (s .header) js); ends = inr (more, refl); one = lacks }))
 
   named-headless : (p : Place) → NoHeader (s .header) text p → (steps : List ℕ) → Named (s .spelled) text steps (fault Text 11 p)
-  named-headless p (boards.NoHeader.unended lacks e) steps =
+  named-headless p (endless lacks e) steps =
       let at : text ≡ [] ++ (text ++ []) = sym (append-nil text) in
       subst (λ q. Named (s .spelled) text steps (fault Text 11 q)) (sym e) (named-line (s .spelled) text steps 1 [] text [] at (record { front = []; back = []; whole = at; starts = inl refl; ends = inl refl; one = lacks }))
   named-headless p (other L more at lacks ne e) steps =

@@ -1,7 +1,7 @@
 -- What one line adds to what is read. Assumes nothing.
 use mathlib.Core.List.{List, [], _∷_, _++_}
 use mathlib.Core.Path.{_≡_, refl, sym, ap, subst, _∙_}
-use Prim.Native.Nat.{ℕ, _+_, _-_, _<_, _≤_}
+use Prim.Native.Nat.{ℕ, _+_, _-_, _≤_}
 use native.Mathlib.Omega.{arith}
 use lib.ListN.{length}
 use Rattle.std.specs.Joined.{joined}
@@ -12,14 +12,14 @@ use Rattle.std.specs.declared.option.Option.the-variants.{Some, None}
 use Rattle.std.specs.declared.result.Result.the-variants.{Ok, Err}
 use Rattle.std.proofs.Told.{every-snoc}
 use Rattle.std.proofs.shelf.Lists.{append-nil, append-assoc, joined-more, length-append, length-push}
-use Rattle.text.specs.Boards.{lineOf, written, Fine}
 use Rattle.faults.specs.Faults.{spot, placed}
-use Rattle.text.specs.Joins.{Accepts, Joins, handed}
-use Rattle.text.specs.Lines.{spaced}
-use Rattle.text.specs.Tokens.{Wrong}
 use Rattle.faults.specs.declared.places.Fault.{Fault}
 use Rattle.faults.specs.declared.refusals.JoinFault.{JoinFault}
 use Rattle.faults.specs.declared.places.Place.{Place}
+use Rattle.text.specs.Boards.{lineOf, written, Fine}
+use Rattle.text.specs.Joins.{Accepts, Joins, handed}
+use Rattle.text.specs.Lines.{spaced}
+use Rattle.text.specs.Tokens.{Wrong}
 use Rattle.text.specs.declared.takers.Join.{Join}
 
 -- the joins js stand in the lines before this one, which begins at an offset with the rest of the text

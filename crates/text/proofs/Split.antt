@@ -1,12 +1,12 @@
 -- The words of a line, found and unique. Assumes nothing.
 use mathlib.Core.Path.{_≡_, refl, sym, ap, subst, _∙_}
-use mathlib.Core.List.{List, [], _∷_, _++_}
-use Prim.Native.Nat.{ℕ, zero, suc, _+_, _<_}
+use mathlib.Core.List.{List, _∷_, _++_}
+use Prim.Native.Nat.{ℕ, _+_, _<_}
 use native.Mathlib.Omega.{arith}
 use lib.Chars.{codes}
-use lib.ListN.{length, getD}
+use lib.ListN.{length}
 use Rattle.std.proofs.shelf.Lists.{length-append}
-use Rattle.keys.specs.Words.{Lacks, Word}
+use Rattle.keys.specs.Words.{Lacks}
 use Rattle.text.proofs.Cuts.{uncut, same-cut, lacks-left, lacks-right, lacks-tail, lacks-by}
 use Rattle.text.specs.Lines.{spaced, Words}
 

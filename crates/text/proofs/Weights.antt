@@ -5,10 +5,9 @@ use Prim.Native.Nat.{ℕ, zero, suc, _<_, _^_}
 use native.Mathlib.Omega.{arith}
 use lib.Dec.{lit<}
 use lib.IntN.{ℤ, pos, negsuc, negℤ}
-use lib.ListN.{length, getD}
 use lib.Signed.{mag}
 use Rattle.std.specs.Written.{decimal, signed}
-use Rattle.std.proofs.shelf.Decimals.{decimal-some, same-from-decimal}
+use Rattle.std.proofs.shelf.Decimals.{same-from-decimal}
 use Rattle.keys.specs.Words.{Word}
 use Rattle.keys.proofs.Spelt.{decimal-word}
 use Rattle.keys.proofs.Numbers.{all-digits}
@@ -30,10 +29,6 @@ module _ (w : List ℕ) where
       let same : decimal (suc n) ≡ decimal 0 = cc in
       let small : suc n < 10000000 = l in
       omega (arith, same-from-decimal (suc n) 0 (omega arith) (lit< tt) same)
-
-  pub plain-none : (0 < length w → getD w 0 0 ≡ 45 → ⊥) → ((n : ℕ) → n < 10 ^ 7 → decimal n ≡ w → ⊥) → NoWeight w
-  plain-none first none (pos n) l h = none n l h
-  plain-none first none (negsuc n) l h = first (omega (arith, ap length h)) (sym (ap (λ s. getD s 0 0) h))
 
   pub minus-some : (rest : List ℕ) (n : ℕ) (z : ℤ) → w ≡ 45 ∷ rest → n < 10 ^ 7 → decimal n ≡ rest → (n ≡ 0 → ⊥) → z ≡ negℤ (pos n) → Short z × (signed z ≡ w)
   minus-some rest zero z e l h some is = absurd (some refl)

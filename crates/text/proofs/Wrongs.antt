@@ -9,11 +9,11 @@ use Rattle.std.proofs.shelf.Lists.{length-append}
 use Rattle.keys.specs.Keys.{NoKey}
 use Rattle.keys.specs.declared.KeyRefusal.the-variants.{Malformed}
 use Rattle.faults.specs.Faults.{spot, ofWord}
-use Rattle.text.specs.Lines.{Words, NoWeight}
-use Rattle.text.specs.Tokens.{Tokens, Wrong, first-malformed, second-malformed, weight-malformed, wordOf, placeOf, beforeFirst, beforeSecond, beforeWeight}
 use Rattle.faults.specs.declared.places.Fault.{Fault}
 use Rattle.faults.specs.declared.refusals.WordFault.{WordFault}
 use Rattle.faults.specs.declared.refusals.WordFault.the-variants.{Key, Weight}
+use Rattle.text.specs.Lines.{Words, NoWeight}
+use Rattle.text.specs.Tokens.{Tokens, Wrong, first-malformed, second-malformed, weight-malformed, wordOf, placeOf, beforeFirst, beforeSecond, beforeWeight}
 use Rattle.text.specs.declared.lines.Parts.{Parts}
 
 module _ (F : List ℕ) (at : ℕ) (begins : at ≡ length F) where

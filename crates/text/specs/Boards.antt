@@ -12,13 +12,13 @@ use Rattle.std.specs.declared.result.Result.{Result}
 use Rattle.std.specs.declared.result.Result.the-variants.{Ok, Err}
 use Rattle.keys.specs.Words.{Lacks}
 use Rattle.faults.specs.Faults.{placed, ofSize, ofLine, ofJoin}
-use Rattle.text.specs.Joins.{Accepts, Joins}
-use Rattle.text.specs.Lines.{Short, spaced}
-use Rattle.text.specs.Tokens.{Wrong}
 use Rattle.faults.specs.declared.places.Fault.{Fault}
 use Rattle.faults.specs.declared.places.Place.{Place}
 use Rattle.faults.specs.declared.refusals.LineFault.the-variants.{Misformed}
 use Rattle.faults.specs.declared.refusals.SizeFault.the-variants.{TooLong}
+use Rattle.text.specs.Joins.{Accepts, Joins}
+use Rattle.text.specs.Lines.{Short, spaced}
+use Rattle.text.specs.Tokens.{Wrong}
 use Rattle.text.specs.declared.takers.Join.{Join}
 
 -- how keys are spelled, the first line of their boards, and which joins are refused, by which numbers
@@ -58,7 +58,7 @@ Begins header text = (rest : List ℕ) × (text ≡ header ++ 10 ∷ rest)
 
 -- the first line is not the header, and where it stands
 pub data NoHeader (header text : List ℕ) (p : Place) : Type 0 where
-  unended : Lacks 10 text → p ≡ placed 1 [] text → NoHeader header text p
+  endless : Lacks 10 text → p ≡ placed 1 [] text → NoHeader header text p
   other : (L rest : List ℕ) → text ≡ L ++ 10 ∷ rest → Lacks 10 L → (L ≡ header → ⊥) → p ≡ placed 1 [] L → NoHeader header text p
 
 -- how the reading stops after the joins so far, which F writes, at the rest of the text: at its end, or at the first line that is no join or is refused

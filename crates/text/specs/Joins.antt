@@ -7,9 +7,9 @@ use Rattle.std.specs.declared.result.Result.{Result}
 use Rattle.std.specs.declared.result.Result.the-variants.{Ok, Err}
 use Rattle.std.specs.Written.{signed}
 use Prim.Native.Nat.{ℕ}
-use Rattle.text.specs.Lines.{Words, Short}
 use Rattle.faults.specs.declared.refusals.JoinFault.{JoinFault}
 use Rattle.faults.specs.declared.places.Place.{Place}
+use Rattle.text.specs.Lines.{Words, Short}
 use Rattle.text.specs.declared.takers.Join.{Join}
 
 -- the answer to a join that is refused for this reason, if any

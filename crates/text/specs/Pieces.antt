@@ -8,10 +8,10 @@ use Rattle.std.specs.declared.result.Result.the-variants.{Ok, Err}
 use Rattle.keys.specs.Keys.{NoKey}
 use Rattle.keys.specs.Words.{Lacks}
 use Rattle.faults.specs.Faults.{Layered, pieceOf}
-use Rattle.text.specs.Lines.{NoWeight}
-use Rattle.text.specs.declared.takers.Join.{Join}
 use Rattle.faults.specs.declared.places.Fault.{Fault}
 use Rattle.faults.specs.declared.places.Layer.the-variants.{Text, Job}
+use Rattle.text.specs.Lines.{NoWeight}
+use Rattle.text.specs.declared.takers.Join.{Join}
 
 -- the piece is a line of the text, without its end
 pub record LineOf (text piece : List ℕ) : Type 0 where

@@ -7,11 +7,11 @@ use lib.ListN.{length}
 use Rattle.keys.specs.Keys.{NoKey}
 use Rattle.keys.specs.declared.KeyRefusal.the-variants.{Malformed}
 use Rattle.faults.specs.Faults.{spot, placed, ofLine, ofWord}
-use Rattle.text.specs.Lines.{Words, NoWords, NoWeight}
 use Rattle.faults.specs.declared.places.Fault.{Fault}
 use Rattle.faults.specs.declared.places.Place.{Place}
 use Rattle.faults.specs.declared.refusals.LineFault.the-variants.{Misformed}
 use Rattle.faults.specs.declared.refusals.WordFault.the-variants as fault
+use Rattle.text.specs.Lines.{Words, NoWords, NoWeight}
 use Rattle.text.specs.declared.lines.Token.{Token}
 use Rattle.text.specs.declared.lines.Token.the-variants.{Key, Weight}
 use Rattle.text.specs.declared.lines.Parts.{Parts}

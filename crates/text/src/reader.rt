@@ -1,16 +1,16 @@
 //! The reader of a board text.
 ghost use mathlib.Core.List.{List, _++_, _∷_};
 ghost use mathlib.Core.Path.{_≡_};
-ghost use Prim.Native.Nat.{ℕ, _<_, _≤_};
+ghost use Prim.Native.Nat.{_<_, _≤_};
 ghost use lib.ListN.{length};
 ghost use Rattle.std.specs.Orderings.{Decides};
 ghost use Rattle.std.specs.Results.{Cases};
 ghost use Rattle.keys.specs.Words.{Lacks};
-ghost use Rattle.text.specs.Boards.{Begins, setting, NoHeader, Told, Complete, OneList, OneOutcome};
 ghost use Rattle.faults.specs.Faults.{spot};
+ghost use Rattle.faults.specs.declared.refusals.LineFault.the-variants.{Misformed};
+ghost use Rattle.text.specs.Boards.{Begins, setting, NoHeader, Told, Complete, OneList, OneOutcome};
 ghost use Rattle.text.specs.Joins.{handed, Grows};
 ghost use Rattle.text.specs.Pieces.{NamedIn};
-ghost use Rattle.faults.specs.declared.refusals.LineFault.the-variants.{Misformed};
 use crate::lines::read_join;
 use crate::takers::Headed;
 use crate::takers::JobRefusal;

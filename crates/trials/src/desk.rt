@@ -1,6 +1,5 @@
 //! A taker that refuses: it takes two joins at most, and none of a net with itself.
-ghost use mathlib.Core.Path.{_≡_};
-ghost use Prim.Native.Nat.{ℕ, _≤_};
+ghost use Prim.Native.Nat.{_≤_};
 ghost use Rattle.text.specs.Joins.{Answers, Grows};
 ghost use Rattle.trials.specs.Desk.{reasonNumber, Holds, ruled};
 use keys::Key;

@@ -1,7 +1,7 @@
-use mathlib.Core.Path.{_≡_, sym, ap, _∙_}
+use mathlib.Core.Path.{_∙_}
 use Prim.Native.Nat.{_-_, _<_, _+_}
 use native.Mathlib.Omega.{arith}
-use lib.ListN.{length, take, drop, set}
+use lib.ListN.{length, drop, set}
 use Rattle.std.proofs.shelf.Lists.{length-set, length-drop, take-all}
 use Rattle.keys.proofs.Figures.{digit-more, digit-last}
 use Rattle.keys.proofs.digits.written.Needs as need

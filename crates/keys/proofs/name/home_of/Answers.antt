@@ -1,5 +1,5 @@
 use mathlib.Core.List.{map}
-use mathlib.Core.Path.{_≡_, sym, ap, _∙_}
+use mathlib.Core.Path.{sym, ap, _∙_}
 use Prim.Native.Nat.{_+_, _*_, _%_, _^_}
 use lib.ListN.{drop}
 use Rattle.std.specs.Text.{lower}

@@ -9,9 +9,9 @@ use Rattle.keys.specs.Spellings.{bytesOf}
 use Rattle.keys.specs.Words.{Lacks}
 use Rattle.keys.specs.declared.name.NameKey.{NameKey}
 use Rattle.keys.specs.declared.number.NumberKey.{NumberKey}
+use Rattle.text.proofs.Cuts.{lacks-by}
 use Rattle.survey.specs.Summaries.{numbers, names}
 use Rattle.survey.specs.declared.summary.Kind.the-variants.{Names, Numbers}
-use Rattle.text.proofs.Cuts.{lacks-by}
 use Rattle.survey.proofs.Summing.{sums-up, begins-written, one-header}
 use Rattle.survey.proofs.summary.summarize.Needs as need
 

@@ -1,8 +1,8 @@
 use mathlib.Core.List.{[]}
-use mathlib.Core.Path.{_≡_, refl, sym, ap, subst, _∙_}
+use mathlib.Core.Path.{ap, _∙_}
 use Rattle.std.specs.declared.result.Result.the-variants.{Ok, Err}
 use Rattle.std.proofs.shelf.Results.{err-from-errBy}
-use Rattle.survey.specs.Summaries.{allTaken, summaryOf}
+use Rattle.survey.specs.Summaries.{allTaken}
 use Rattle.survey.proofs.Totals.{whole-summary}
 use Rattle.survey.proofs.summary.summed.Needs as need
 

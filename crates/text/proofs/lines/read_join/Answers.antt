@@ -1,8 +1,8 @@
-use mathlib.Core.Path.{_≡_, ap, _∙_}
+use mathlib.Core.Path.{ap, _∙_}
 use Rattle.std.proofs.shelf.Results.{err-from-errBy}
 use Rattle.faults.specs.Faults.{ofLine, spot}
-use Rattle.text.specs.Tokens.{misformed}
 use Rattle.faults.specs.declared.refusals.LineFault.the-variants.{Misformed}
+use Rattle.text.specs.Tokens.{misformed}
 use Rattle.text.proofs.Wrongs.{first-wrong, second-wrong, weight-wrong}
 use Rattle.text.proofs.lines.read_join.Needs as need
 

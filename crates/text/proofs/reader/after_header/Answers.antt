@@ -1,9 +1,9 @@
 use mathlib.Core.List.{_∷_, _++_}
-use mathlib.Core.Path.{_≡_, refl, sym, ap, _∙_}
+use mathlib.Core.Path.{refl, sym, ap, _∙_}
 use Rattle.std.proofs.shelf.Equals.{matches-decides}
 use Rattle.std.proofs.shelf.Tests.{not-true, not-false, both-ways}
-use Rattle.text.specs.Boards.{other}
 use Rattle.faults.specs.declared.refusals.LineFault.the-variants.{Misformed}
+use Rattle.text.specs.Boards.{other}
 use Rattle.text.proofs.reader.after_header.Needs as need
 
 pub returns-then-ne : need.returns-then-ne

@@ -1,6 +1,6 @@
 use mathlib.Core.Bool.{false, true}
 use mathlib.Core.List.{_∷_, _++_}
-use mathlib.Core.Path.{_≡_, sym, ap, subst, _∙_}
+use mathlib.Core.Path.{sym, ap, subst, _∙_}
 use Rattle.std.proofs.shelf.Equals.{matches-decides}
 use Rattle.std.proofs.shelf.Tests.{false≢true}
 use Rattle.keys.specs.Words.{Lacks}

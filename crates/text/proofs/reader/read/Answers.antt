@@ -1,6 +1,5 @@
-use mathlib.Core.List.{List, [], _++_}
-use mathlib.Core.Path.{_≡_, refl, sym, subst, _∙_}
-use lib.ListN.{length}
+use mathlib.Core.List.{[], _++_}
+use mathlib.Core.Path.{refl, sym, subst, _∙_}
 use Rattle.std.proofs.shelf.Lists.{append-nil}
 use Rattle.text.specs.Boards.{reading, ended, setting, OneOutcome}
 use Rattle.text.proofs.Cuts.{lacks-by}

@@ -1,13 +1,13 @@
-use mathlib.Core.List.{List, [], _∷_, _++_}
-use mathlib.Core.Path.{_≡_, refl, sym, ap, subst, _∙_}
+use mathlib.Core.List.{[], _∷_, _++_}
+use mathlib.Core.Path.{refl, sym, ap, subst, _∙_}
 use native.Mathlib.Omega.{arith}
 use lib.ListN.{length}
 use Rattle.std.specs.declared.result.Result.the-variants.{Ok, Err}
 use Rattle.std.proofs.shelf.Lists.{append-nil, append-assoc, length-append, nil-from-length}
 use Rattle.std.proofs.shelf.Results.{err-from-errBy}
-use Rattle.text.specs.Boards.{headless, reading, ended, unended, wrong, refused}
 use Rattle.faults.specs.Faults.{ofLine, ofJoin}
 use Rattle.faults.specs.declared.refusals.LineFault.the-variants.{Misformed}
+use Rattle.text.specs.Boards.{headless, reading, ended, unended, wrong, refused}
 use Rattle.text.proofs.Reading.{begun, more, bounds, located, wrong-here, lines-read, handed-ok, handed-err, accepts-more}
 use Rattle.text.proofs.reader.read_through.Needs as need
 

@@ -1,15 +1,15 @@
-use mathlib.Core.Path.{_≡_, refl, sym, ap, subst, _∙_}
+use mathlib.Core.Path.{_≡_, sym, ap, _∙_}
 use mathlib.Core.List.{_∷_}
 use Prim.Native.Nat.{_-_, _<_}
 use native.Mathlib.Omega.{arith}
-use lib.IntN.{ℤ, pos, negℤ, _-ℤ_}
-use lib.ListN.{length, getD, take, drop}
+use lib.IntN.{pos, negℤ, _-ℤ_}
+use lib.ListN.{length, take, drop}
 use mir.Syntax.{w32}
 use mir.Val.{toZ, ofZ}
 use Rattle.std.specs.Written.{decimal}
 use Rattle.std.proofs.shelf.Parts.{first-rest}
 use Rattle.std.proofs.shelf.Signed.{ints}
-use Rattle.text.proofs.Weights.{minus-none, minus-zero, minus-some, plain-none}
+use Rattle.text.proofs.Weights.{minus-none, minus-zero, minus-some}
 use Rattle.text.proofs.words.weight.Needs as need
 
 pub returns-in-Break-n : need.returns-in-Break-n

@@ -1,6 +1,5 @@
 use Prim.Native.Nat.{ℕ}
 use lib.Dec.{eqb}
-use Rattle.std.specs.Orderings.{Decides}
 use Rattle.std.proofs.shelf.Tests.{eq-eqb, eqb-true}
 use Rattle.keys.specs.declared.number.NumberKey.{NumberKey}
 use Rattle.keys.proofs.Alike.{alike-reflexive, alike-symmetric, alike-transitive, alike-homes}
