@@ -1,5 +1,5 @@
 -- Keys are spelled by words, each by its own. Assumes nothing.
-use mathlib.Core.Bool.{Bool-set, true, false, _&&_}
+use mathlib.Core.Bool.{Bool-set, true, false, not, _&&_}
 use mathlib.Core.HLevel.{isProp→PathP}
 use mathlib.Core.List.{List, List·isSet, [], _∷_, _++_}
 use mathlib.Core.Path.{_≡_, refl, sym, ap, subst, _∙_}
@@ -7,19 +7,21 @@ use Prim.Native.Nat.{ℕ, zero, suc, _-_, _≤_, _<_, _^_}
 use native.Mathlib.Bridge.{le-prop}
 use native.Mathlib.Nat.{ℕ-set}
 use native.Mathlib.Omega.{arith}
-use lib.Dec.{leb}
+use lib.Dec.{eqb, leb, lit<}
 use lib.ListN.{length, getD, drop, replicate}
 use Rattle.std.specs.Written.{decimal}
-use Rattle.std.specs.Results.{Cases}
+use Rattle.std.specs.Reads.{value}
+use Rattle.std.specs.Results.{Cases, isOk}
+use Rattle.std.specs.shelf.Text.{allDigits}
 use Rattle.std.specs.Text.{In}
 use Rattle.std.specs.declared.result.Result.{Result}
 use Rattle.std.specs.declared.result.Result.the-variants.{Ok, Err}
-use Rattle.std.proofs.shelf.Decimals.{decimal-reads, decimal-some, same-from-decimal}
+use Rattle.std.proofs.shelf.Decimals.{decimal-reads, decimal-some, decimal-digit, decimal-value, digits-decimal, first-decimal, length-decimal-le, same-from-decimal}
 use Rattle.std.proofs.shelf.Lists.{take-append-drop, length-take-le}
-use Rattle.std.proofs.shelf.Numerals.{digit-at}
-use Rattle.std.proofs.shelf.Tests.{and-parts, leb-true, both-ways}
+use Rattle.std.proofs.shelf.Numerals.{Numerals, digit-at, numerals-by-value, tells-allDigits, value-short}
+use Rattle.std.proofs.shelf.Tests.{and-from, and-parts, eqb-false, le-leb, leb-true, ne-eqb, not-from-false, not-true, both-ways}
 use Rattle.keys.specs.Keys.{ReadAs}
-use Rattle.keys.specs.Names.{nameByte, allName, isName}
+use Rattle.keys.specs.Forms.{nameByte, allName, isName, isNumber}
 use Rattle.keys.specs.Spellings.{bytesOf}
 use Rattle.keys.specs.Words.{Lacks, Word}
 use Rattle.keys.specs.declared.KeyRefusal.{KeyRefusal}
@@ -62,6 +64,42 @@ number-read n w l e (Err x) h = (
       let v : k .value ≡ n = same-from-decimal (k .value) n (omega arith) l (d ∙ sym e) in
       h .1 (subst (λ m. 1 ≤ m) v (k .low)) (subst (λ m. m ≤ 999999999) v (k .high)),
 )
+
+-- numbers in the form of a key are those of the keys
+own : Numerals (λ ds. allDigits ds ≡ true) (value 10)
+own = numerals-by-value (λ ds. allDigits ds ≡ true) tells-allDigits
+
+number-form : (k : NumberKey) (w : List ℕ) → decimal (k .value) ≡ w → isNumber w ≡ true
+number-form k w e =
+    let n = k .value in
+    let high = k .high in
+    let low = k .low in
+    let fits : n < 2 ^ 64 = omega arith in
+    let short : n < 10 ^ 9 = omega arith in
+    let first : 48 < getD w 0 0 = subst (λ s. 48 < getD s 0 0) e (first-decimal n (omega arith) fits) in
+    and-from _ _ (le-leb 1 (length w) (subst (λ s. 1 ≤ length s) e (decimal-some n fits)))
+    (and-from _ _ (le-leb (length w) 9 (subst (λ s. length s ≤ 9) e (length-decimal-le 9 n (lit< tt) short fits)))
+      (and-from _ _ (not-from-false _ (ne-eqb (getD w 0 0) 48 (λ z. omega arith))) (subst (λ s. allDigits s ≡ true) e (digits-decimal own n fits))))
+
+form-number : (w : List ℕ) → isNumber w ≡ true → (k : NumberKey) × (decimal (k .value) ≡ w)
+form-number w h =
+    let a = and-parts (leb 1 (length w)) _ h in
+    let b = and-parts (leb (length w) 9) _ (a .1) in
+    let c = and-parts (not (eqb (getD w 0 0) 48)) (allDigits w) (b .1) in
+    let some = leb-true 1 (length w) (a .0) in
+    let nonzero : getD w 0 0 ≡ 48 → ⊥ = eqb-false (getD w 0 0) 48 (not-true _ (c .0)) in
+    let short : value 10 w < 1000000000 = value-short own w 9 (c .1) (leb-true (length w) 9 (b .0)) in
+    let is : decimal (value 10 w) ≡ w = decimal-value own w (c .1) some (λ z. absurd (nonzero z)) (omega arith) in
+    let low : value 10 w ≡ 0 → ⊥ = λ z. nonzero (sym (ap (λ s. getD s 0 0) (sym (decimal-digit 0 (lit< tt)) ∙ ap decimal (sym z) ∙ is))) in
+    (record { value = value 10 w; low = omega (arith, low); high = omega arith }, is)
+
+pub number-told : (w : List ℕ) (r : Result NumberKey KeyRefusal) → ReadAs (λ k. decimal (k .value)) w r → isOk r ≡ isNumber w
+number-told w (Ok k) h = sym (number-form k w h)
+number-told w (Err x) h =
+    elim (isNumber w) as (λ b. isNumber w ≡ b → false ≡ b) [
+      | true ↦ λ e. let k = form-number w e in absurd (h .1 (k .0) (k .1))
+      | false ↦ λ e. refl
+    ] refl
 
 -- a name has no byte that is none of a name's
 name-lacks : (c : ℕ) → nameByte c ≡ false → (s : List ℕ) → allName s ≡ true → Lacks c s

@@ -1,4 +1,4 @@
 pub mod Words
 pub mod Spellings
 pub mod Keys
-pub mod Names
+pub mod Forms

@@ -6,7 +6,7 @@ ghost use Rattle.std.specs.Results.{isOk};
 ghost use Rattle.std.specs.Text.{lower};
 ghost use Rattle.std.specs.shelf.Text.{sameBytes};
 ghost use Rattle.keys.specs.Keys.{ReadAs};
-ghost use Rattle.keys.specs.Names.{isName, homeFrom, nameByte, allName};
+ghost use Rattle.keys.specs.Forms.{isName, homeFrom, nameByte, allName};
 ghost use Rattle.keys.specs.Spellings.{bytesOf};
 use crate::Key;
 use crate::KeyRefusal;

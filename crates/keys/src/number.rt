@@ -2,8 +2,10 @@
 ghost use mathlib.Core.Path.{_≡_};
 ghost use Prim.Native.Nat.{_≤_};
 ghost use lib.Dec.{eqb};
-ghost use Rattle.std.specs.Results.{Cases};
+ghost use Rattle.std.specs.Results.{Cases, isOk};
 ghost use Rattle.std.specs.Written.{decimal};
+ghost use Rattle.keys.specs.Forms.{isNumber};
+ghost use Rattle.keys.specs.Keys.{ReadAs};
 ghost use Rattle.keys.specs.declared.KeyRefusal.the-variants.{Malformed};
 use crate::Key;
 use crate::KeyRefusal;
@@ -52,7 +54,10 @@ pub impl Key for NumberKey as NumberKeyKey {
 pub impl Spelled for NumberKey as NumberKeySpelled {
     ghost spelled = { λ k. decimal (k .value) };
 
-    fn read(word: &[u8]) -> Result<NumberKey, KeyRefusal> {
+    fn read(word: &[u8]) -> Result<NumberKey, KeyRefusal>
+        ensures key { λ r. ⌜ ReadAs (λ k. decimal (k .value)) (now (word .entry)) r ⌝ }
+        ensures form { λ r. ⌜ isOk r ≡ isNumber (now (word .entry)) ⌝ }
+    {
         match natural(word) {
             Some(n) => NumberKey::new(n),
             None => Err(KeyRefusal::Malformed),

@@ -3,7 +3,7 @@ use mathlib.Core.Path.{sym, ap, _∙_}
 use Prim.Native.Nat.{_+_}
 use lib.ListN.{drop}
 use Rattle.std.proofs.shelf.Lists.{at-drop-more, at-drop-all}
-use Rattle.keys.specs.Names.{allName}
+use Rattle.keys.specs.Forms.{allName}
 use Rattle.keys.proofs.name.all_name.Needs as need
 
 pub returns-then-not-is-name-byte : need.returns-then-not-is-name-byte

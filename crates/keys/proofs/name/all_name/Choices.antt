@@ -1,6 +1,6 @@
 use mathlib.Core.Path.{_≡_}
 use lib.ListN.{drop}
-use Rattle.keys.specs.Names.{allName}
+use Rattle.keys.specs.Forms.{allName}
 use Rattle.keys.proofs.name.all_name.Given as given
 
 abbrev pub Inv-loop-b : given.InvT-loop-b

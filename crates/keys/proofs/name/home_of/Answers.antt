@@ -4,7 +4,7 @@ use Prim.Native.Nat.{_+_, _*_, _%_, _^_}
 use lib.ListN.{drop}
 use Rattle.std.specs.Text.{lower}
 use Rattle.std.proofs.shelf.Lists.{at-drop-more, at-drop-all}
-use Rattle.keys.specs.Names.{homeFrom}
+use Rattle.keys.specs.Forms.{homeFrom}
 use Rattle.keys.proofs.name.home_of.Needs as need
 
 pub loop-b-again : need.loop-b-again

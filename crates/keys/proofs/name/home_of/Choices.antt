@@ -2,7 +2,7 @@ use mathlib.Core.List.{map}
 use mathlib.Core.Path.{_≡_}
 use lib.ListN.{drop}
 use Rattle.std.specs.Text.{lower}
-use Rattle.keys.specs.Names.{homeFrom}
+use Rattle.keys.specs.Forms.{homeFrom}
 use Rattle.keys.proofs.name.home_of.Given as given
 
 abbrev pub Inv-loop-b : given.InvT-loop-b

@@ -3,7 +3,7 @@ use Prim.Native.Nat.{ℕ}
 use Rattle.std.specs.Text.{lower}
 use Rattle.std.specs.shelf.Text.{sameBytes}
 use Rattle.std.proofs.shelf.Equals.{sameBytes-decides}
-use Rattle.keys.specs.Names.{homeFrom}
+use Rattle.keys.specs.Forms.{homeFrom}
 use Rattle.keys.specs.Spellings.{bytesOf}
 use Rattle.keys.specs.declared.name.NameKey.{NameKey}
 use Rattle.keys.proofs.Alike.{alike-reflexive, alike-symmetric, alike-transitive, alike-homes}
