@@ -79,7 +79,7 @@ number-form k w e =
     let first : 48 < getD w 0 0 = subst (λ s. 48 < getD s 0 0) e (first-decimal n (omega arith) fits) in
     and-from _ _ (le-leb 1 (length w) (subst (λ s. 1 ≤ length s) e (decimal-some n fits)))
     (and-from _ _ (le-leb (length w) 9 (subst (λ s. length s ≤ 9) e (length-decimal-le 9 n (lit< tt) short fits)))
-      (and-from _ _ (not-from-false _ (ne-eqb (getD w 0 0) 48 (λ z. omega arith))) (subst (λ s. allDigits s ≡ true) e (digits-decimal own n fits))))
+    (and-from _ _ (not-from-false _ (ne-eqb (getD w 0 0) 48 (λ z. omega arith))) (subst (λ s. allDigits s ≡ true) e (digits-decimal own n fits))))
 
 form-number : (w : List ℕ) → isNumber w ≡ true → (k : NumberKey) × (decimal (k .value) ≡ w)
 form-number w h =
