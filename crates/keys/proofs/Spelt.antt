@@ -24,8 +24,8 @@ use Rattle.keys.specs.Keys.{ReadAs}
 use Rattle.keys.specs.Forms.{nameByte, allName, isName, isNumber}
 use Rattle.keys.specs.Spellings.{bytesOf}
 use Rattle.keys.specs.Words.{Lacks, Word}
-use Rattle.keys.specs.declared.KeyRefusal.{KeyRefusal}
-use Rattle.keys.specs.declared.KeyRefusal.the-variants.{Malformed}
+use Rattle.keys.specs.declared.kinds.KeyRefusal.{KeyRefusal}
+use Rattle.keys.specs.declared.kinds.KeyRefusal.the-variants.{Malformed}
 use Rattle.keys.specs.declared.name.NameKey.{NameKey}
 use Rattle.keys.specs.declared.number.NumberKey.{NumberKey}
 use Rattle.keys.specs.declared.spelling.Spelling.{Spelling}

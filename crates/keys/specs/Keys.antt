@@ -4,8 +4,8 @@ use mathlib.Core.Path.{_≡_}
 use Prim.Native.Nat.{ℕ}
 use Rattle.std.specs.declared.result.Result.{Result}
 use Rattle.std.specs.declared.result.Result.the-variants.{Ok, Err}
-use Rattle.keys.specs.declared.KeyRefusal.{KeyRefusal}
-use Rattle.keys.specs.declared.KeyRefusal.the-variants.{Malformed}
+use Rattle.keys.specs.declared.kinds.KeyRefusal.{KeyRefusal}
+use Rattle.keys.specs.declared.kinds.KeyRefusal.the-variants.{Malformed}
 
 -- the number of a refusal
 abbrev pub keyNumber : KeyRefusal → ℕ

@@ -8,9 +8,9 @@ ghost use Rattle.std.specs.shelf.Text.{sameBytes};
 ghost use Rattle.keys.specs.Keys.{ReadAs};
 ghost use Rattle.keys.specs.Forms.{isName, homeFrom, nameByte, allName};
 ghost use Rattle.keys.specs.Spellings.{bytesOf};
-use crate::Key;
-use crate::KeyRefusal;
-use crate::Spelled;
+use crate::kinds::Key;
+use crate::kinds::KeyRefusal;
+use crate::kinds::Spelled;
 use crate::spelling::Spelling;
 
 /// A name that stands for a net.

@@ -6,12 +6,12 @@ ghost use Rattle.std.specs.Results.{Cases, isOk};
 ghost use Rattle.std.specs.Written.{decimal};
 ghost use Rattle.keys.specs.Forms.{isNumber};
 ghost use Rattle.keys.specs.Keys.{ReadAs};
-ghost use Rattle.keys.specs.declared.KeyRefusal.the-variants.{Malformed};
-use crate::Key;
-use crate::KeyRefusal;
-use crate::Spelled;
+ghost use Rattle.keys.specs.declared.kinds.KeyRefusal.the-variants.{Malformed};
 use crate::digits::natural;
 use crate::digits::written;
+use crate::kinds::Key;
+use crate::kinds::KeyRefusal;
+use crate::kinds::Spelled;
 use crate::spelling::Spelling;
 
 /// The greatest number that is a key.

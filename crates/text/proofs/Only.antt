@@ -15,7 +15,7 @@ use Rattle.std.specs.declared.result.Result.the-variants.{Err}
 use Rattle.std.proofs.shelf.Decimals.{same-from-signed}
 use Rattle.std.proofs.shelf.Lists.{append-assoc, append-nil, append-cancel-left, length-append}
 use Rattle.keys.specs.Words.{Lacks, Word}
-use Rattle.keys.specs.declared.KeyRefusal.the-variants.{Malformed}
+use Rattle.keys.specs.declared.kinds.KeyRefusal.the-variants.{Malformed}
 use Rattle.faults.specs.Faults.{placed, ofLine, ofWord, ofJoin}
 use Rattle.faults.specs.declared.places.Fault.{Fault}
 use Rattle.faults.specs.declared.refusals.LineFault.the-variants.{Misformed}

@@ -7,7 +7,7 @@ use lib.Chars.{codes}
 use lib.ListN.{length}
 use Rattle.std.proofs.shelf.Lists.{length-append}
 use Rattle.keys.specs.Keys.{NoKey}
-use Rattle.keys.specs.declared.KeyRefusal.the-variants.{Malformed}
+use Rattle.keys.specs.declared.kinds.KeyRefusal.the-variants.{Malformed}
 use Rattle.faults.specs.Faults.{spot, ofWord}
 use Rattle.faults.specs.declared.places.Fault.{Fault}
 use Rattle.faults.specs.declared.refusals.WordFault.{WordFault}

@@ -5,7 +5,7 @@ use Prim.Native.Nat.{ℕ, _+_}
 use lib.Chars.{codes}
 use lib.ListN.{length}
 use Rattle.keys.specs.Keys.{NoKey}
-use Rattle.keys.specs.declared.KeyRefusal.the-variants.{Malformed}
+use Rattle.keys.specs.declared.kinds.KeyRefusal.the-variants.{Malformed}
 use Rattle.faults.specs.Faults.{spot, placed, ofLine, ofWord}
 use Rattle.faults.specs.declared.places.Fault.{Fault}
 use Rattle.faults.specs.declared.places.Place.{Place}

@@ -8,7 +8,7 @@ ghost use Rattle.std.specs.Results.{Cases};
 ghost use Rattle.std.specs.Written.{signed};
 ghost use Rattle.keys.specs.Keys.{NoKey};
 ghost use Rattle.keys.specs.Words.{Lacks};
-ghost use Rattle.keys.specs.declared.KeyRefusal.the-variants.{Malformed};
+ghost use Rattle.keys.specs.declared.kinds.KeyRefusal.the-variants.{Malformed};
 ghost use Rattle.faults.specs.Faults.{spot};
 ghost use Rattle.faults.specs.declared.refusals.LineFault.the-variants.{Misformed};
 ghost use Rattle.faults.specs.declared.refusals.WordFault.the-variants.{Key, Weight};

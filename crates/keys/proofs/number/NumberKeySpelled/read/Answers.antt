@@ -3,7 +3,7 @@ use native.Mathlib.Omega.{arith}
 use Rattle.std.specs.declared.result.Result.the-variants.{Err}
 use Rattle.std.specs.Written.{decimal}
 use Rattle.keys.specs.Keys.{ReadAs}
-use Rattle.keys.specs.declared.KeyRefusal.the-variants.{Malformed}
+use Rattle.keys.specs.declared.kinds.KeyRefusal.the-variants.{Malformed}
 use Rattle.keys.specs.declared.number.NumberKey.{NumberKey}
 use Rattle.keys.proofs.Numbers.{small}
 use Rattle.keys.proofs.Spelt.{number-read, number-told}
