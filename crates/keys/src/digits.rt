@@ -43,8 +43,5 @@ pub(crate) fn written(n: u64) -> Spelling
         at -= 1;
     }
     bytes[at] = b'0' + rest as u8;
-    match Spelling::new(&bytes[at..]) {
-        Some(spelling) => spelling,
-        None => unreachable(),
-    }
+    Spelling::copied(&bytes[at..])
 }

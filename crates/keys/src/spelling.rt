@@ -28,7 +28,8 @@ impl Spelling {
         Some(Spelling::copied(word))
     }
 
-    fn copied(word: &[u8]) -> Spelling
+    /// The word, which has at most 12 bytes.
+    pub(crate) fn copied(word: &[u8]) -> Spelling
         requires { ⌜ length (now word) ≤ 12 ⌝ }
         ensures { λ s. ⌜ take (s .len) (s .bytes) ≡ now (word .entry) ⌝ }
     {

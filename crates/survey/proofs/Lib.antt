@@ -1,3 +1,4 @@
 pub mod Counts
+pub mod Headings
 pub mod Summing
 pub mod Totals

@@ -13,6 +13,7 @@ use Rattle.keys.specs.declared.name.NameKey.{NameKey}
 use Rattle.keys.specs.declared.number.NumberKey.{NumberKey}
 use Rattle.faults.specs.declared.places.Fault.{Fault}
 use Rattle.text.specs.Boards.{Begins, Setting, Outcome}
+use Rattle.text.specs.Pieces.{Named}
 use Rattle.text.specs.declared.takers.Join.{Join}
 use Rattle.survey.specs.Census.{sizesOf}
 use Rattle.survey.specs.declared.census.Never.{Never}
@@ -47,6 +48,16 @@ pub record Summed {K : Type 0} (spelled : K → List ℕ) (header : List ℕ) (k
 pub data Summarized (text : List ℕ) (r : Result Summary Fault) : Type 0 where
   numbers : Begins (codes "board numbers") text → Summed {K = NumberKey} (λ k. decimal (k .value)) (codes "board numbers") Numbers text r → Summarized text r
   names : (Begins (codes "board numbers") text → ⊥) → Summed {K = NameKey} (λ k. bytesOf (k .text)) (codes "board names") Names text r → Summarized text r
+
+-- a text has one summary or one fault
+abbrev pub OneSummary : List ℕ → Type 0
+OneSummary text = (r r′ : Result Summary Fault) → Summarized text r → Summarized text r′ → r ≡ r′
+
+-- the piece of a fault is what was refused, of the keys that the first line names
+abbrev pub NamedAs : List ℕ → Result Summary Fault → Type 0
+NamedAs text (Ok s) = Unit {0}
+NamedAs text (Err f) =
+    (steps : List ℕ) → (Begins (codes "board numbers") text → Named {K = NumberKey} (λ k. decimal (k .value)) text steps f) × ((Begins (codes "board numbers") text → ⊥) → Named {K = NameKey} (λ k. bytesOf (k .text)) text steps f)
 
 -- the three lines that show a summary
 abbrev pub summaryText : Summary → List ℕ

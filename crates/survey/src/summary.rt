@@ -12,7 +12,7 @@ ghost use Rattle.keys.specs.declared.name.NameKey.{NameKey};
 ghost use Rattle.keys.specs.declared.number.NumberKey.{NumberKey};
 ghost use Rattle.text.specs.Boards.{Written};
 ghost use Rattle.text.specs.declared.takers.Join.{Join};
-ghost use Rattle.survey.specs.Summaries.{Summed, Summarized, summary, kindWord, summaryText};
+ghost use Rattle.survey.specs.Summaries.{Summed, Summarized, OneSummary, NamedAs, summary, kindWord, summaryText};
 ghost use Rattle.survey.specs.declared.summary.Kind.the-variants.{Names, Numbers};
 use crate::census::Census;
 use crate::census::CensusTaker;
@@ -60,8 +60,10 @@ fn summed<K: Spelled + Headed>(text: &[u8], kind: Kind) -> Result<Summary, Fault
 /// The summary of a board text, or its first fault.
 pub fn summarize(text: &[u8]) -> Result<Summary, Fault>
     ensures told { λ r. ⌜ Summarized (now (text .entry)) r ⌝ }
+    ensures one { λ _. ⌜ OneSummary (now (text .entry)) ⌝ }
     ensures names { λ r. ⌜ ((js : List (Join NameKey)) → length (now (text .entry)) ≤ 60000 → Written (λ k. bytesOf (k .text)) (codes "board names") js (now (text .entry)) → r ≡ Ok (summary Names js)) ⌝ }
     ensures numbers { λ r. ⌜ ((js : List (Join NumberKey)) → length (now (text .entry)) ≤ 60000 → Written (λ k. decimal (k .value)) (codes "board numbers") js (now (text .entry)) → r ≡ Ok (summary Numbers js)) ⌝ }
+    ensures named { λ r. ⌜ NamedAs (now (text .entry)) r ⌝ }
 {
     if begins::<NumberKey>(text) {
         return summed::<NumberKey>(text, Kind::Numbers);

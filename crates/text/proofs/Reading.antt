@@ -1,7 +1,7 @@
 -- What one line adds to what is read. Assumes nothing.
 use mathlib.Core.List.{List, [], _∷_, _++_}
 use mathlib.Core.Path.{_≡_, refl, sym, ap, subst, _∙_}
-use Prim.Native.Nat.{ℕ, _+_, _-_, _≤_}
+use Prim.Native.Nat.{ℕ, suc, _+_, _-_, _≤_}
 use native.Mathlib.Omega.{arith}
 use lib.ListN.{length}
 use Rattle.std.specs.Joined.{joined}
@@ -28,6 +28,10 @@ pub record Begun {K : Type 0} (spelled : K → List ℕ) (header text rest : Lis
   pub fine : Every Fine js
   pub counted : line ≡ length js + 2
   pub begins : at ≡ length (written spelled header js)
+
+-- how long a text is that begins with a line
+pub line-length : (rest L after : List ℕ) → rest ≡ L ++ 10 ∷ after → length rest ≡ length L + suc (length after)
+line-length rest L after e = ap length e ∙ length-append L (10 ∷ after)
 
 few : {K : Type 0} (spelled : K → List ℕ) (js : List (Join K)) → length js ≤ length (joined (lineOf spelled) js)
 few spelled [] = omega arith

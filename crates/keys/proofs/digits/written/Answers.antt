@@ -17,5 +17,5 @@ returns c =
     let i = c .loop-rest .inv in
     let place : c .loop-rest .at < length (c .loop-rest .bytes) = omega arith in
     let bytes = set (c .loop-rest .bytes) (c .loop-rest .at) (48 + c .loop-rest .rest) in
-    c .in-Some .ensures tt ∙ take-all (12 - c .loop-rest .at) (drop (c .loop-rest .at) bytes) (omega (arith, length-drop (c .loop-rest .at) bytes, length-set (c .loop-rest .bytes) (c .loop-rest .at) (48 + c .loop-rest .rest)))
+    c .copied .ensures ∙ take-all (12 - c .loop-rest .at) (drop (c .loop-rest .at) bytes) (omega (arith, length-drop (c .loop-rest .at) bytes, length-set (c .loop-rest .bytes) (c .loop-rest .at) (48 + c .loop-rest .rest)))
     ∙ digit-last (c .args .n) (c .loop-rest .rest) (c .loop-rest .at) (c .loop-rest .bytes) (i .0) (c .loop-rest-test .left) place

@@ -8,7 +8,7 @@ use Rattle.std.proofs.shelf.Results.{err-from-errBy}
 use Rattle.faults.specs.Faults.{ofLine, ofJoin}
 use Rattle.faults.specs.declared.refusals.LineFault.the-variants.{Misformed}
 use Rattle.text.specs.Boards.{headless, reading, ended, unended, wrong, refused}
-use Rattle.text.proofs.Reading.{begun, more, bounds, located, wrong-here, lines-read, handed-ok, handed-err, accepts-more}
+use Rattle.text.proofs.Reading.{line-length, begun, more, bounds, located, wrong-here, lines-read, handed-ok, handed-err, accepts-more}
 use Rattle.text.proofs.reader.read_through.Needs as need
 
 pub returns-in-Break-rest : need.returns-in-Break-rest
@@ -41,7 +41,7 @@ pub read-join-requires : need.read-join-requires
 read-join-requires g c κs =
     let b = bounds (c .loop-rest .inv .1) in
     let e = c .in-Continue-bytes .ensures tt in
-    let l = ap length (e .0) ∙ length-append (c .in-Continue-bytes .bytes .now) (10 ∷ c .in-Continue-bytes .after .now) in
+    let l = line-length _ _ _ (e .0) in
     (e .1, omega (arith, c .in-Continue-measure .ensures tt))
 
 pub returns-in-Break-join : need.returns-in-Break-join
@@ -73,7 +73,7 @@ pub add-at-in-loop-rest : need.add-at-in-loop-rest
 add-at-in-loop-rest g c =
     let b = bounds (c .loop-rest .inv .1) in
     let e = c .in-Continue-bytes .ensures tt in
-    let l = ap length (e .0) ∙ length-append (c .in-Continue-bytes .bytes .now) (10 ∷ c .in-Continue-bytes .after .now) in
+    let l = line-length _ _ _ (e .0) in
     omega (arith, c .in-Continue-measure .ensures tt)
 
 pub add-line : need.add-line
@@ -84,7 +84,7 @@ add-line g c =
 pub loop-rest-less : need.loop-rest-less
 loop-rest-less g c =
     let e = c .in-Continue-bytes .ensures tt in
-    let l = ap length (e .0) ∙ length-append (c .in-Continue-bytes .bytes .now) (10 ∷ c .in-Continue-bytes .after .now) in
+    let l = line-length _ _ _ (e .0) in
     omega arith
 
 pub loop-rest-again : need.loop-rest-again

@@ -1,5 +1,8 @@
+use mathlib.Core.Bool.{Bool}
 use mathlib.Core.List.{List, map}
+use mathlib.Core.Path.{_≡_}
 use Prim.Native.Nat.{ℕ}
+use Rattle.std.specs.Orderings.{Decides}
 use Rattle.std.specs.Text.{lower}
 use Rattle.std.specs.shelf.Text.{sameBytes}
 use Rattle.std.proofs.shelf.Equals.{sameBytes-decides}
@@ -12,14 +15,20 @@ use Rattle.keys.proofs.name.NameKeyKey.the-impl.Needs as need
 abbrev folded : NameKey → List ℕ
 folded k = map lower (bytesOf (k .text))
 
+abbrev same : NameKey → NameKey → Bool
+same a b = sameBytes (folded a) (folded b)
+
+decides : (a b : NameKey) → Decides (same a b) (folded a ≡ folded b)
+decides a b = sameBytes-decides (folded a) (folded b)
+
 pub reflexive-law : need.reflexive-law
-reflexive-law = alike-reflexive folded (λ a b. sameBytes (folded a) (folded b)) (λ a b. sameBytes-decides (folded a) (folded b))
+reflexive-law = alike-reflexive folded same decides
 
 pub symmetric-law : need.symmetric-law
-symmetric-law = alike-symmetric folded (λ a b. sameBytes (folded a) (folded b)) (λ a b. sameBytes-decides (folded a) (folded b))
+symmetric-law = alike-symmetric folded same decides
 
 pub transitive-law : need.transitive-law
-transitive-law = alike-transitive folded (λ a b. sameBytes (folded a) (folded b)) (λ a b. sameBytes-decides (folded a) (folded b))
+transitive-law = alike-transitive folded same decides
 
 pub homes-law : need.homes-law
-homes-law = alike-homes folded (λ a b. sameBytes (folded a) (folded b)) (λ a b. sameBytes-decides (folded a) (folded b)) (homeFrom 0)
+homes-law = alike-homes folded same decides (homeFrom 0)
