@@ -1,5 +1,5 @@
 -- What follows from what a reduction keeps.
-use Rattle.std.proofs.Common.{false, ℤ, ◌+ℤ◌, refl, ◌∙◌, arith}
+use Rattle.std.proofs.Common.{false, ◌+ℤ◌, refl, ◌∙◌, arith}
 use Rattle.std.proofs.lemmas.Int.{ints}
 use Rattle.cuts.specs.Boards.{Split}
 use Rattle.cuts.specs.Reductions.{ReducesBest, BestShifted, ReducesThen, ReducesNot, ShiftBounded}

@@ -1,4 +1,6 @@
 //! Boards, splits, best cuts and reductions, as mathematics. The functions do nothing: their contracts are the theorems.
+#![tactic(auto)]
+
 ghost use Rattle.cuts.specs.Merging.{MergedWeights, MergedSound, MergedExact, MergedLighter, MergedReduces, RemovedReduces};
 ghost use Rattle.cuts.specs.Reductions.{ReducesBest, BestShifted, ReducesThen, ReducesNot, ShiftBounded};
 ghost use Rattle.cuts.specs.Values.{OneSide, Turning, Flipping, Bounded, BestExists, BestUnique, BestNatural, BestOfNone};

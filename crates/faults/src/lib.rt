@@ -1,4 +1,6 @@
 //! What is refused, by number and place, and the piece of a file that a fault names.
+#![tactic(auto)]
+
 pub mod pieces;
 pub mod places;
 pub mod refusals;

@@ -1,4 +1,6 @@
 //! What a board in memory is made of: nets by number, splits, and weights in rows.
+#![tactic(auto)]
+
 pub mod cells;
 pub mod nets;
 pub mod splits;

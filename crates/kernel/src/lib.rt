@@ -1,4 +1,6 @@
 //! A board of at most 120 nets in memory: the kernel that rules make smaller and that is searched.
+#![tactic(auto)]
+
 pub mod board;
 pub mod changes;
 pub mod kept;

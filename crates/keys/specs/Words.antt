@@ -1,5 +1,5 @@
 -- Words of a text. Assumes nothing.
-use Rattle.std.specs.Prelude.{◌≡◌, ℕ, ◌<◌, List, length, ◌≢◌, slice_index}
+use Rattle.std.specs.Prelude.{ℕ, ◌<◌, List, length, ◌≢◌, slice_index}
 
 -- the byte c does not stand in s
 abbrev pub Lacks : ℕ → List ℕ → Type 0

@@ -1,4 +1,6 @@
 //! Kinds of key: sameness, homes and spelling, for numbers and for names.
+#![tactic(auto)]
+
 pub mod digits;
 pub mod kinds;
 pub mod name;

@@ -5,7 +5,7 @@ ghost use Rattle.std.specs.Str.{bytes_eq};
 ghost use Rattle.keys.specs.Keys.{ReadAs};
 ghost use Rattle.keys.specs.Forms.{is_name, home_from, name_byte, all_name_bytes};
 ghost use Rattle.keys.specs.Spellings.{bytes_of};
-ghost use Rattle.std.proofs.Common.{rules, arith};
+ghost use Rattle.std.proofs.Common.{rules};
 
 use crate::kinds::{Key, KeyRefusal, Spelled};
 use crate::spelling::Spelling;
@@ -51,13 +51,13 @@ impl Key for NameKey {
 
     ghost home = { λ a. home_from 0 (map to_ascii_lowercase (bytes_of a.text)) };
 
-    ghost reflexive = { first_of (Prim.search rules, Prim.grind (arith, Self.row.coded.inj)) };
+    ghost reflexive = { Prim.search rules };
 
-    ghost symmetric = { first_of (Prim.search rules, Prim.grind (arith, Self.row.coded.inj)) };
+    ghost symmetric = { Prim.search rules };
 
-    ghost transitive = { first_of (Prim.search rules, Prim.grind (arith, Self.row.coded.inj)) };
+    ghost transitive = { Prim.search rules };
 
-    ghost homes = { first_of (Prim.search rules, Prim.grind (arith, Self.row.coded.inj)) };
+    ghost homes = { Prim.search rules };
 
     fn is_same(&self, other: &NameKey) -> bool {
         self.text.bytes().eq_ignore_ascii_case(other.text.bytes())
@@ -69,11 +69,13 @@ impl Key for NameKey {
 }
 
 impl Spelled for NameKey {
+    ghost use Rattle.keys.specs.Spelt.{name_word, same_name};
+
     ghost spelled = { λ k. bytes_of k.text };
 
-    ghost word = { first_of (Prim.search rules, Prim.grind (arith, Self.row.coded.inj)) };
+    ghost word = { name_word };
 
-    ghost apart = { first_of (Prim.search rules, Prim.grind (arith, Self.row.coded.inj)) };
+    ghost apart = { same_name };
 
     fn read(word: &[u8]) -> Result<NameKey, KeyRefusal>
         ensures key { ReadAs (λ k. bytes_of k.text) word.now result }

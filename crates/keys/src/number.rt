@@ -3,7 +3,7 @@ ghost use Rattle.std.specs.Prelude.{◌≡◌, ◌≤◌, is_ok, decimal, MatchR
 ghost use Rattle.keys.specs.Forms.{is_number};
 ghost use Rattle.keys.specs.Keys.{ReadAs};
 ghost use Rattle.keys.specs.declared.kinds.KeyRefusal.TheVariants.{Malformed};
-ghost use Rattle.std.proofs.Common.{rules, arith};
+ghost use Rattle.std.proofs.Common.{rules};
 
 use crate::digits::{natural, written};
 use crate::kinds::{Key, KeyRefusal, Spelled};
@@ -37,13 +37,13 @@ impl Key for NumberKey {
 
     ghost home = { λ a. a.value };
 
-    ghost reflexive = { first_of (Prim.search rules, Prim.grind (arith, Self.row.coded.inj)) };
+    ghost reflexive = { Prim.search rules };
 
-    ghost symmetric = { first_of (Prim.search rules, Prim.grind (arith, Self.row.coded.inj)) };
+    ghost symmetric = { Prim.search rules };
 
-    ghost transitive = { first_of (Prim.search rules, Prim.grind (arith, Self.row.coded.inj)) };
+    ghost transitive = { Prim.search rules };
 
-    ghost homes = { first_of (Prim.search rules, Prim.grind (arith, Self.row.coded.inj)) };
+    ghost homes = { Prim.search rules };
 
     fn is_same(&self, other: &NumberKey) -> bool {
         self.value == other.value
@@ -55,11 +55,13 @@ impl Key for NumberKey {
 }
 
 impl Spelled for NumberKey {
+    ghost use Rattle.keys.specs.Spelt.{number_word, same_number};
+
     ghost spelled = { λ k. decimal k.value };
 
-    ghost word = { first_of (Prim.search rules, Prim.grind (arith, Self.row.coded.inj)) };
+    ghost word = { number_word };
 
-    ghost apart = { first_of (Prim.search rules, Prim.grind (arith, Self.row.coded.inj)) };
+    ghost apart = { same_number };
 
     fn read(word: &[u8]) -> Result<NumberKey, KeyRefusal>
         ensures key { ReadAs (λ k. decimal k.value) word.now result }

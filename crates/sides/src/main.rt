@@ -1,4 +1,6 @@
 //! Prints what the board text in `board.txt` holds, or its first fault.
+#![tactic(auto)]
+
 ghost use Rattle.std.specs.Prelude.{◌≤◌, length, IfOk};
 
 use anyhow::anyhow;

@@ -37,7 +37,7 @@ fn split<'t>(line: &'t [u8]) -> Option<(&'t [u8], &'t [u8], &'t [u8])>
     ensures { MatchOption result (NoWords line.now) (λ p. Words line.now p.0.now p.1.now p.2.now) }
 {
     let (word, rest) = cut(line, b' ')?;
-    if word != b"join" {
+    if word != b"join".as_slice() {
         return None;
     }
     let (a, rest) = cut(rest, b' ')?;

@@ -62,8 +62,8 @@ fn next_line<'t>(rest: &'t [u8], line: usize, at: usize) -> Result<(&'t [u8], &'
 
 /// Hands a join on; a refusal is given its place.
 fn hand_on<T: Taker>(taker: &mut T, join: Join<T::Key>, place: Place) -> Result<(), JoinFault>
-    ensures answers { (js : List (Join T.Key)) → taken taker.old js → result ≡ handed T.Refusal.JobRefusal.numbered place (rule js join) }
-    ensures grows { Grows (taken taker.old) (taken taker.new) join result }
+    ensures answers { (js : List (Join T.Key)) → T.taken taker.old js → result ≡ handed T.Refusal.JobRefusal.numbered place (T.rule js join) }
+    ensures grows { Grows (T.taken taker.old) (T.taken taker.new) join result }
 {
     match taker.take(join) {
         Ok(()) => Ok(()),
@@ -76,7 +76,7 @@ fn hand_on<T: Taker>(taker: &mut T, join: Join<T::Key>, place: Place) -> Result<
 
 /// The lines of a text one after the other, up to its end or the first fault.
 fn read_through<T: Taker>(text: &[u8], taker: &mut T) -> Result<usize, Fault>
-    ensures told { Told (setting T.Key.Spelled.spelled T.Key.Headed.header rule T.Refusal.JobRefusal.numbered) (taken taker.old) (taken taker.new) text.now result }
+    ensures told { Told (setting T.Key.Spelled.spelled T.Key.Headed.header T.rule T.Refusal.JobRefusal.numbered) (T.taken taker.old) (T.taken taker.new) text.now result }
 {
     measure(text)?;
     let mut rest = after_header::<T::Key>(text)?;
@@ -95,11 +95,11 @@ fn read_through<T: Taker>(text: &[u8], taker: &mut T) -> Result<usize, Fault>
 
 /// Reads a text and hands on its joins one after the other, up to the first fault; answers how many joins it has.
 pub fn read<T: Taker>(text: &[u8], taker: &mut T) -> Result<usize, Fault>
-    ensures told { Told (setting T.Key.Spelled.spelled T.Key.Headed.header rule T.Refusal.JobRefusal.numbered) (taken taker.old) (taken taker.new) text.now result }
-    ensures one { OneOutcome (setting T.Key.Spelled.spelled T.Key.Headed.header rule T.Refusal.JobRefusal.numbered) text.now }
-    ensures complete { Complete (setting T.Key.Spelled.spelled T.Key.Headed.header rule T.Refusal.JobRefusal.numbered) (taken taker.old) (taken taker.new) text.now result }
+    ensures told { Told (setting T.Key.Spelled.spelled T.Key.Headed.header T.rule T.Refusal.JobRefusal.numbered) (T.taken taker.old) (T.taken taker.new) text.now result }
+    ensures one { OneOutcome (setting T.Key.Spelled.spelled T.Key.Headed.header T.rule T.Refusal.JobRefusal.numbered) text.now }
+    ensures complete { Complete (setting T.Key.Spelled.spelled T.Key.Headed.header T.rule T.Refusal.JobRefusal.numbered) (T.taken taker.old) (T.taken taker.new) text.now result }
     ensures unique { OneList T.Key.Spelled.spelled T.Key.Headed.header text.now }
-    ensures named { NamedIn T.Key.Spelled.spelled (taken taker.old) text.now result }
+    ensures named { NamedIn T.Key.Spelled.spelled (T.taken taker.old) text.now result }
 {
     read_through(text, taker)
 }

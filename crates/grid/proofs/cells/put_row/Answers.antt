@@ -9,7 +9,7 @@ pub loop-u-preserved : goal.loop-u-preserved
 loop-u-preserved c =
     let f : ℕ → ℤ = λ u. get_or c.args.row.now u (pos 0) in
     let fits : SFits w32 (f c.loop-u.u) = search rules in
-    c.put-pair.ensures.weights
+    c.put_pair.ensures.weights
     ∙ ap₂ (paired c.args.v.index c.loop-u.u) (to_z-of_z w32 (f c.loop-u.u) fits) c.loop-u.invariant
     ∙ upto_more c.loop-u.u c.args.v.index f (weight_in c.args.cells.now)
 

@@ -11,4 +11,4 @@ loop-other-init c = (sym (∑_none _), omega (arith, ints))
 pub loop-other-preserved : goal.loop-other-preserved
 loop-other-preserved c =
     let a = ∑_more c.loop-other.other (λ u. size (weight_in c.args.cells.now c.args.v.index u)) in
-    (omega (arith, ints, c.cell-size-total.ensures.size, c.cell-size-total.ensures.small), omega (arith, ints, c.cell-size-total.ensures.size, c.cell-size-total.ensures.small))
+    (omega (arith, ints, c.cell_size-total.ensures.size, c.cell_size-total.ensures.small), omega (arith, ints, c.cell_size-total.ensures.size, c.cell_size-total.ensures.small))

@@ -7,18 +7,18 @@ use Rattle.kernel.proofs.Boards.{sound}
 use Rattle.kernel.proofs.Totals.{replaced}
 use Rattle.kernel.proofs.changes.resized.Goals as goal
 
-pub overflow-sub-result : goal.overflow-sub-result
-overflow-sub-result c = let k = c.args.kernel.now in omega (arith, ints, k.light, k.counted, sizes_natural (view k), c.cell-size.ensures.size, c.cell-size.ensures.small)
+pub overflow_sub-result : goal.overflow_sub-result
+overflow_sub-result c = let k = c.args.kernel.now in omega (arith, ints, k.light, k.counted, sizes_natural (view k), c.cell_size.ensures.size, c.cell_size.ensures.small)
 
-pub overflow-add-result : goal.overflow-add-result
-overflow-add-result c = let k = c.args.kernel.now in omega (arith, ints, k.light, k.counted, sizes_natural (view k), c.cell-size.ensures.size, c.cell-size.ensures.small, c.weight-size.ensures.size, c.weight-size.ensures.small)
+pub overflow_add-result : goal.overflow_add-result
+overflow_add-result c = let k = c.args.kernel.now in omega (arith, ints, k.light, k.counted, sizes_natural (view k), c.cell_size.ensures.size, c.cell_size.ensures.small, c.weight_size.ensures.size, c.weight_size.ensures.small)
 
 pub returns : goal.returns
 returns c =
     let k = c.args.kernel.now in
     let total = sizes_natural (view k) in
     let counted = k.counted in
-    let old = c.cell-size.ensures.size in
-    let new : c.weight-size.result ≡ size c.args.weight = c.weight-size.ensures.size ∙ ap size (to_z-of_z w32 c.args.weight c.ranges.weight) in
+    let old = c.cell_size.ensures.size in
+    let new : c.weight_size.result ≡ size c.args.weight = c.weight_size.ensures.size ∙ ap size (to_z-of_z w32 c.args.weight c.ranges.weight) in
     let sum = weighed_sizes (view k) c.args.v.index c.args.u.index c.args.weight (sound k) c.requires in
-    replaced k.sizes c.cell-size.result c.weight-size.result _ (omega (arith, ints, k.light)) (omega (arith, ints, c.cell-size.ensures.small)) (omega (arith, ints, c.weight-size.ensures.small)) (omega (arith, ints))
+    replaced k.sizes c.cell_size.result c.weight_size.result _ (omega (arith, ints, k.light)) (omega (arith, ints, c.cell_size.ensures.small)) (omega (arith, ints, c.weight_size.ensures.small)) (omega (arith, ints))

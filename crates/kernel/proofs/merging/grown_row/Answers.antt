@@ -11,9 +11,9 @@ use Rattle.kernel.proofs.merging.grown_row.Goals as goal
 pub loop-j-preserved : goal.loop-j-preserved
 loop-j-preserved c =
     let f : ℕ → ℤ = grown c.args.opposed c.args.v.index c.args.u.index (weight_in c.args.cells.now) in
-    let e : to_z w32 (of_z w32 c.grown-weight.result) ≡ c.grown-weight.result = omega (arith, ints) in
+    let e : to_z w32 (of_z w32 c.grown_weight.result) ≡ c.grown_weight.result = omega (arith, ints) in
     let long = c.loop-j.invariant.0 in
-    (length-set c.loop-j.row c.loop-j.j _ ∙ long, rw (e ∙ c.grown-weight.ensures) (fill_by_more f c.loop-j.row c.loop-j.j (pos 0) (omega arith) c.loop-j.invariant.1))
+    (length-set c.loop-j.row c.loop-j.j _ ∙ long, rw (e ∙ c.grown_weight.ensures) (fill_by_more f c.loop-j.row c.loop-j.j (pos 0) (omega arith) c.loop-j.invariant.1))
 
 pub returns : goal.returns
 returns c j = elim (cases_lt j 120) [

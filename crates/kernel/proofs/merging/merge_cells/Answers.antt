@@ -7,6 +7,6 @@ use Rattle.kernel.proofs.merging.merge_cells.Goals as goal
 
 pub returns : goal.returns
 returns c = record {
-  long = c.put-row-2.array_long;
-  weights = c.put-row-2.ensures ∙ ap₂ (placed c.args.v.index) (fun_ext (λ u. repeated 120 (pos 0) u)) (c.put-row.ensures ∙ ap (λ f. placed c.args.u.index f (weight_in c.args.cells.now)) (fun_ext c.grown-row-row.ensures));
+  long = c.put_row-2.array_long;
+  weights = c.put_row-2.ensures ∙ ap₂ (placed c.args.v.index) (fun_ext (λ u. repeated 120 (pos 0) u)) (c.put_row.ensures ∙ ap (λ f. placed c.args.u.index f (weight_in c.args.cells.now)) (fun_ext c.grown_row-row.ensures));
 }

@@ -9,11 +9,11 @@ use Rattle.kernel.proofs.merging.sizes_at_two.Goals as goal
 pub returns : goal.returns
 returns c =
     let k = c.args.kernel.now in
-    let first = c.row-sizes.ensures.small in
-    let second = c.row-sizes-2.ensures.small in
-    let shared = c.cell-size.ensures.small in
-    let total = summed c.row-sizes.result c.row-sizes-2.result c.cell-size.result first second (omega (arith, ints, c.cell-size.ensures.size)) in
+    let first = c.row_sizes.ensures.small in
+    let second = c.row_sizes-2.ensures.small in
+    let shared = c.cell_size.ensures.small in
+    let total = summed c.row_sizes.result c.row_sizes-2.result c.cell_size.result first second (omega (arith, ints, c.cell_size.ensures.size)) in
     record {
-      sum = omega (arith, ints, total, c.row-sizes.ensures.sum, c.row-sizes-2.ensures.sum, c.cell-size.ensures.size, sizes_row (view k) c.args.v.index 120 (sound k) k.few, sizes_row (view k) c.args.u.index 120 (sound k) k.few);
+      sum = omega (arith, ints, total, c.row_sizes.ensures.sum, c.row_sizes-2.ensures.sum, c.cell_size.ensures.size, sizes_row (view k) c.args.v.index 120 (sound k) k.few, sizes_row (view k) c.args.u.index 120 (sound k) k.few);
       small = omega (arith, ints, total);
     }

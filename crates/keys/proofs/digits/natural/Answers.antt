@@ -12,22 +12,22 @@ returns-then-word-eq0 c n l e = ⊎_elim (not_empty n _ l e) (λ p. not_long n _
 pub returns-then-word-gt1 : goal.returns-then-word-gt1
 returns-then-word-gt1 c n l e = no_zero n _ l e c.if-word-eq48.true c.if-word-gt1.true
 
-pub returns-then-not-is-ascii-digit : goal.returns-then-not-is-ascii-digit
-returns-then-not-is-ascii-digit c n l e =
+pub returns-then-not-is_ascii_digit : goal.returns-then-not-is_ascii_digit
+returns-then-not-is_ascii_digit c n l e =
     let d = all_digits n _ l e c.loop-b.b-index c.loop-b-test.true in
-    ⊎_elim (λ low. omega (arith, low, d.0)) (λ high. omega (arith, high, d.1)) c.if-not-is-ascii-digit.ensures.cases
+    ⊎_elim (λ low. omega (arith, low, d.0)) (λ high. omega (arith, high, d.1)) c.if-not-is_ascii_digit.ensures.cases
 
-pub overflow-mul-n : goal.overflow-mul-n
-overflow-mul-n c = omega (arith, below c.args.word.now c.loop-b.b-index c.loop-b.invariant.0 c.loop-b-test.true (omega arith))
+pub overflow_mul-n : goal.overflow_mul-n
+overflow_mul-n c = omega (arith, below c.args.word.now c.loop-b.b-index c.loop-b.invariant.0 c.loop-b-test.true (omega arith))
 
-pub overflow-add-n : goal.overflow-add-n
-overflow-add-n c = omega (arith, below c.args.word.now c.loop-b.b-index c.loop-b.invariant.0 c.loop-b-test.true (omega arith))
+pub overflow_add-n : goal.overflow_add-n
+overflow_add-n c = omega (arith, below c.args.word.now c.loop-b.b-index c.loop-b.invariant.0 c.loop-b-test.true (omega arith))
 
 pub loop-b-preserved : goal.loop-b-preserved
 loop-b-preserved c =
     let w = c.args.word.now in
     let i = c.loop-b.b-index in
-    let told = c.if-not-is-ascii-digit.ensures in
+    let told = c.if-not-is_ascii_digit.ensures in
     let d = digit_value_digit (get_or w i 0) told.cases in (
       digits_more 10 w i c.loop-b-test.true c.loop-b.invariant.0 told.bound,
       omega (arith, digits_value_more 10 w i c.loop-b-test.true, c.loop-b.invariant.1),

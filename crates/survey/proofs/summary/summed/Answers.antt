@@ -4,15 +4,15 @@ use Rattle.survey.specs.Summaries.{all_taken}
 use Rattle.survey.proofs.Totals.{whole_summary}
 use Rattle.survey.proofs.summary.summed.Goals as goal
 
-pub returns-in-err-read : goal.returns-in-err-read
-returns-in-err-read g c =
-    let p = err_from_is_err_and c.from-residual.result c.from-residual.ensures.1 in
-    let t = c.in-err-read.ensures.told [] (c.new-census.ensures.joins, c.new-census.ensures.sizes) in
+pub returns-in_err-read : goal.returns-in_err-read
+returns-in_err-read g c =
+    let p = err_from_is_err_and c.from_residual.result c.from_residual.ensures.1 in
+    let t = c.in_err-read.ensures.told [] (c.new-census.ensures.joins, c.new-census.ensures.sizes) in
     record { js = t.0; reading = _; outcome = t.1; is = p.1 ∙ ap Err p.2 }
 
 pub returns : goal.returns
 returns g c =
-    let t = c.in-ok-read.ensures.told [] (c.new-census.ensures.joins, c.new-census.ensures.sizes) in
+    let t = c.in_ok-read.ensures.told [] (c.new-census.ensures.joins, c.new-census.ensures.sizes) in
     record {
       js = t.0;
       reading = _;

@@ -10,11 +10,11 @@ pub returns-then-ne : goal.returns-then-ne
 returns-then-ne g c =
     let cut = c.in-Some.ensures in
     let ne = c.if-ne.ensures in
-    (_, other _ _ cut.0 cut.1 (λ e. both_ways ne.0 (not-true ne.0 (sym ne.2)) ((slice_eq-Decides Decides-eqb _ _ ne.0 ne.1).1 (e ∙ sym c.header.ensures))) refl, ap Misformed c.of.ensures)
+    (_, other _ _ cut.0 cut.1 (λ e. both_ways _ (not-true _ (sym ne)) ((slice_eq-Decides Decides-eqb _ _ _ refl).1 (e ∙ sym c.header.ensures))) refl, ap Misformed c.of.ensures)
 
 pub returns-else-ne : goal.returns-else-ne
 returns-else-ne g c =
     let cut = c.in-Some.ensures in
     let ne = c.if-ne.ensures in
-    let same = (slice_eq-Decides Decides-eqb _ _ ne.0 ne.1).0 (not-false ne.0 (sym ne.2)) in
+    let same = (slice_eq-Decides Decides-eqb _ _ _ refl).0 (not-false _ (sym ne)) in
     cut.0 ∙ ap (λ l. l ++ 10 ∷ c.in-Some.rest.now) (same ∙ c.header.ensures)

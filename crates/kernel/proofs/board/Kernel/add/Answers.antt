@@ -7,9 +7,19 @@ use Rattle.kernel.specs.Views.{view}
 use Rattle.kernel.proofs.Boards.{sound, restood}
 use Rattle.kernel.proofs.board.Kernel.add.Goals as goal
 
-pub invariant-of-self : goal.invariant-of-self
-invariant-of-self c =
+pub invariant_of-self : goal.invariant_of-self
+invariant_of-self c =
     let k = c.args.self.now in
     let room : k.nets < length k.standing = search rules in
     let s : Sound (board_in (k.nets + 1) (set k.standing k.nets true) k.weights) = subst Sound (sym (restood k (k.nets + 1) k.nets true room)) (added_sound (view k) (sound k)) in
-    (length-set k.standing k.nets true ∙ k.room, (k.long, (omega arith, (s.inside, (s.symmetric, (s.hollow, (s.bare, (k.counted ∙ sym (added_sizes (view k) (sound k)), (k.light, tt)))))))))
+    record {
+      room = length-set k.standing k.nets true ∙ k.room;
+      long = k.long;
+      few = omega arith;
+      inside = s.inside;
+      symmetric = s.symmetric;
+      hollow = s.hollow;
+      bare = s.bare;
+      counted = k.counted ∙ sym (added_sizes (view k) (sound k));
+      light = k.light;
+    }

@@ -8,10 +8,20 @@ use Rattle.kernel.specs.Arrays.{board_in}
 use Rattle.kernel.proofs.Boards.{board_empty}
 use Rattle.kernel.proofs.board.Kernel.new.Goals as goal
 
-pub invariant-of-result : goal.invariant-of-result
-invariant-of-result c =
+pub invariant_of-result : goal.invariant_of-result
+invariant_of-result c =
     let s : Sound (board_in 0 (replicate 120 false) (replicate 14400 (pos 0))) = subst Sound (sym (board_empty 120 14400)) empty_sound in
-    (length-replicate 120 false, (length-replicate 14400 (pos 0), (omega arith, (s.inside, (s.symmetric, (s.hollow, (s.bare, (sym (pairs_none _), (omega (arith, ints), tt)))))))))
+    record {
+      room = length-replicate 120 false;
+      long = length-replicate 14400 (pos 0);
+      few = omega arith;
+      inside = s.inside;
+      symmetric = s.symmetric;
+      hollow = s.hollow;
+      bare = s.bare;
+      counted = sym (pairs_none _);
+      light = omega (arith, ints);
+    }
 
 pub returns : goal.returns
 returns c = board_empty 120 14400

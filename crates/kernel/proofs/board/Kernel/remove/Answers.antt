@@ -10,13 +10,23 @@ use Rattle.kernel.proofs.Boards.{sound, restood}
 use Rattle.kernel.proofs.Cases.{remove_done}
 use Rattle.kernel.proofs.board.Kernel.remove.Goals as goal
 
-pub invariant-of-self : goal.invariant-of-self
-invariant-of-self c =
+pub invariant_of-self : goal.invariant_of-self
+invariant_of-self c =
     let k = c.args.self.now in
     let room : c.args.v.index < length k.standing = search rules in
     let lone = lone_tells (view k) c.args.v.index (sym c.connections.ensures ∙ c.if-connections-ne0.false) in
     let s : Sound (board_in k.nets (set k.standing c.args.v.index false) k.weights) = subst Sound (sym (restood k k.nets c.args.v.index false room)) (removed_reduces (view k) c.args.v.index (sound k) lone).sound in
-    (length-set k.standing c.args.v.index false ∙ k.room, (k.long, (k.few, (s.inside, (s.symmetric, (s.hollow, (s.bare, (k.counted, (k.light, tt)))))))))
+    record {
+      room = length-set k.standing c.args.v.index false ∙ k.room;
+      long = k.long;
+      few = k.few;
+      inside = s.inside;
+      symmetric = s.symmetric;
+      hollow = s.hollow;
+      bare = s.bare;
+      counted = k.counted;
+      light = k.light;
+    }
 
 pub returns : goal.returns
 returns c =

@@ -16,17 +16,27 @@ returns-then-sizes-gt-LIMIT c =
     let e = to_z-of_z w32 c.args.weight c.ranges.weight in
     let total : c.resized-sizes.result ≡ sizes (weighed c.args.v.index c.args.u.index c.args.weight b) = c.resized-sizes.ensures ∙ ap (λ (z : ℤ). sizes (weighed c.args.v.index c.args.u.index z b)) e in
     let heavy : light (weighed c.args.v.index c.args.u.index c.args.weight b) ≡ false = grind (arith, ints, c.if-sizes-gt-LIMIT.true) in
-    let r = set_heavy c.args.v.index c.args.u.index c.args.weight b (sym c.if-not-are-two.ensures) heavy in
+    let r = set_heavy c.args.v.index c.args.u.index c.args.weight b (sym c.if-not-are_two.ensures) heavy in
     record { answer = r.0; board = r.1 }
 
-pub invariant-of-self : goal.invariant-of-self
-invariant-of-self c =
+pub invariant_of-self : goal.invariant_of-self
+invariant_of-self c =
     let k = c.args.self.now in
     let e = to_z-of_z w32 c.args.weight c.ranges.weight in
-    let board = repaired k c.put-pair.new.cells c.args.v.index c.args.u.index _ c.args.weight e c.put-pair.ensures.weights in
-    let s : Sound (board_in k.nets k.standing c.put-pair.new.cells) = subst Sound (sym board) (weighed_sound (view k) c.args.v.index c.args.u.index c.args.weight (sound k) (sym c.if-not-are-two.ensures)) in
-    let total : c.resized-sizes.result ≡ sizes (board_in k.nets k.standing c.put-pair.new.cells) = c.resized-sizes.ensures ∙ ap (λ (z : ℤ). sizes (weighed c.args.v.index c.args.u.index z (view k))) e ∙ ap sizes (sym board) in
-    (k.room, (c.put-pair.ensures.long, (k.few, (s.inside, (s.symmetric, (s.hollow, (s.bare, (omega (arith, ints), (grind (arith, ints, c.if-sizes-gt-LIMIT.false), tt)))))))))
+    let board = repaired k c.put_pair.new.cells c.args.v.index c.args.u.index _ c.args.weight e c.put_pair.ensures.weights in
+    let s : Sound (board_in k.nets k.standing c.put_pair.new.cells) = subst Sound (sym board) (weighed_sound (view k) c.args.v.index c.args.u.index c.args.weight (sound k) (sym c.if-not-are_two.ensures)) in
+    let total : c.resized-sizes.result ≡ sizes (board_in k.nets k.standing c.put_pair.new.cells) = c.resized-sizes.ensures ∙ ap (λ (z : ℤ). sizes (weighed c.args.v.index c.args.u.index z (view k))) e ∙ ap sizes (sym board) in
+    record {
+      room = k.room;
+      long = c.put_pair.ensures.long;
+      few = k.few;
+      inside = s.inside;
+      symmetric = s.symmetric;
+      hollow = s.hollow;
+      bare = s.bare;
+      counted = omega (arith, ints);
+      light = grind (arith, ints, c.if-sizes-gt-LIMIT.false);
+    }
 
 pub returns : goal.returns
 returns c =
@@ -34,5 +44,5 @@ returns c =
     let e = to_z-of_z w32 c.args.weight c.ranges.weight in
     let total : c.resized-sizes.result ≡ sizes (weighed c.args.v.index c.args.u.index c.args.weight (view k)) = c.resized-sizes.ensures ∙ ap (λ (z : ℤ). sizes (weighed c.args.v.index c.args.u.index z (view k))) e in
     let fine : light (weighed c.args.v.index c.args.u.index c.args.weight (view k)) ≡ true = grind (arith, ints, c.if-sizes-gt-LIMIT.false) in
-    let r = set_done c.args.v.index c.args.u.index c.args.weight (view k) (sym c.if-not-are-two.ensures) fine in
-    record { answer = r.0; board = repaired k c.put-pair.new.cells c.args.v.index c.args.u.index _ c.args.weight e c.put-pair.ensures.weights ∙ r.1 }
+    let r = set_done c.args.v.index c.args.u.index c.args.weight (view k) (sym c.if-not-are_two.ensures) fine in
+    record { answer = r.0; board = repaired k c.put_pair.new.cells c.args.v.index c.args.u.index _ c.args.weight e c.put_pair.ensures.weights ∙ r.1 }

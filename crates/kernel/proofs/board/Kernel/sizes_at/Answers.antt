@@ -17,7 +17,7 @@ loop-u-preserved c =
     elim c.if-not-names.branch [
       | then-not-names w ↦
           let e : besides c.args.spared.now f c.loop-u.u ≡ f c.loop-u.u = cond-false _ _ _ (sym w.if-not-names.ensures) in
-          (omega (arith, ints, w.total-is, w.cell-size-total.ensures.size, w.cell-size-total.ensures.small), omega (arith, ints, w.total-is, w.cell-size-total.ensures.size, w.cell-size-total.ensures.small))
+          (omega (arith, ints, w.total-is, w.cell_size-total.ensures.size, w.cell_size-total.ensures.small), omega (arith, ints, w.total-is, w.cell_size-total.ensures.size, w.cell_size-total.ensures.small))
       | else-not-names w ↦
           let e : besides c.args.spared.now f c.loop-u.u ≡ pos 0 = cond-true _ _ _ (sym w.if-not-names.ensures) in
           (omega (arith, ints, w.total-is), omega (arith, ints, w.total-is))

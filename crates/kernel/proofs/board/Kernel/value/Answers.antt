@@ -13,7 +13,7 @@ pub loop-v-preserved : goal.loop-v-preserved
 loop-v-preserved g c =
     let s = g.S.Split.sides c.args.split.now in
     let a = pairs_more c.loop-v.v (λ i j. cut (s i) (s j) ((view c.args.self.now).weight i j)) in
-    let e = c.value-at-total.ensures in
+    let e = c.value_at-total.ensures in
     (omega (arith, ints), omega (arith, ints))
 
 pub returns : goal.returns

@@ -24,11 +24,15 @@ whole word bytes i end e = e ∙ ap (λ k. take k word ++ zeros (12 - k)) end �
 pub loop-i-preserved : goal.loop-i-preserved
 loop-i-preserved c = copied c.args.word.now c.loop-i.bytes c.loop-i.i c.loop-i-test.true c.requires c.loop-i.invariant
 
-pub invariant-of-result : goal.invariant-of-result
-invariant-of-result c =
+pub invariant_of-result : goal.invariant_of-result
+invariant_of-result c =
     let w = c.args.word.now in
     let e = whole w c.loop-i.bytes c.loop-i.i (omega arith) c.loop-i.invariant in
-    (ap length e ∙ length-append w (zeros (12 - length w)) ∙ omega (arith, length-replicate {A = ℕ} (12 - length w) 0, c.requires), (c.requires, (ap (drop (length w)) e ∙ drop_at w (zeros (12 - length w)) (length w) refl, tt)))
+    record {
+      room = ap length e ∙ length-append w (zeros (12 - length w)) ∙ omega (arith, length-replicate {A = ℕ} (12 - length w) 0, c.requires);
+      fits = c.requires;
+      padded = ap (drop (length w)) e ∙ drop_at w (zeros (12 - length w)) (length w) refl;
+    }
 
 pub returns : goal.returns
 returns c =

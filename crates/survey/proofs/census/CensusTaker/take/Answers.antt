@@ -7,11 +7,11 @@ pub returns : goal.returns
 returns g c =
     let before = c.args.self.now in
     let fits : SFits w32 c.args.join.weight = search rules in
-    let size : c.unsigned-abs.result ≡ nat_abs c.args.join.weight = c.unsigned-abs.ensures.value ∙ ap nat_abs (to_z-of_z w32 c.args.join.weight fits) in
-    let sum : c.saturating-add-self-2.result ≡ min (before.sizes + c.unsigned-abs.result) (2 ^ 64 - 1) = c.saturating-add-self-2.ensures in
+    let size : c.unsigned_abs.result ≡ nat_abs c.args.join.weight = c.unsigned_abs.ensures.value ∙ ap nat_abs (to_z-of_z w32 c.args.join.weight fits) in
+    let sum : c.saturating_add-self-2.result ≡ min (before.sizes + c.unsigned_abs.result) (2 ^ 64 - 1) = c.saturating_add-self-2.ensures in
     record {
       answers = λ js h. refl;
       grows = λ js h.
           let m = one_more before.joins before.sizes js c.args.join h in
-          (c.saturating-add-self.ensures ∙ m.0, sum ∙ ap (λ s. min (before.sizes + s) (2 ^ 64 - 1)) size ∙ m.1);
+          (c.saturating_add-self.ensures ∙ m.0, sum ∙ ap (λ s. min (before.sizes + s) (2 ^ 64 - 1)) size ∙ m.1);
     }
