@@ -1,4 +1,3 @@
-pub mod Alike
 pub mod Figures
 pub mod Numbers
 pub mod Spelt

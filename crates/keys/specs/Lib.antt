@@ -2,4 +2,4 @@ pub mod Words
 pub mod Spellings
 pub mod Keys
 pub mod Forms
-pub mod Spelt
+pub mod Laws

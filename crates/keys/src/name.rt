@@ -69,7 +69,7 @@ impl Key for NameKey {
 }
 
 impl Spelled for NameKey {
-    ghost use Rattle.keys.specs.Spelt.{name_word, same_name};
+    ghost use Rattle.keys.specs.Laws.{name_word, same_name};
 
     ghost spelled = { λ k. bytes_of k.text };
 

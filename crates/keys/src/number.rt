@@ -55,7 +55,7 @@ impl Key for NumberKey {
 }
 
 impl Spelled for NumberKey {
-    ghost use Rattle.keys.specs.Spelt.{number_word, same_number};
+    ghost use Rattle.keys.specs.Laws.{number_word, same_number};
 
     ghost spelled = { λ k. decimal k.value };
 

@@ -4,7 +4,7 @@ use Rattle.keys.specs.Spellings.{bytes_of}
 use Rattle.keys.specs.Words.{Lacks}
 use Rattle.keys.specs.declared.name.NameKey.{NameKey}
 use Rattle.keys.specs.declared.number.NumberKey.{NumberKey}
-use Rattle.keys.specs.Spelt.{name_word, same_name, number_word, same_number}
+use Rattle.keys.specs.Laws.{name_word, same_name, number_word, same_number}
 use Rattle.faults.specs.declared.places.Fault.{Fault}
 use Rattle.text.specs.Boards.{Written}
 use Rattle.text.specs.declared.takers.Join.{Join}

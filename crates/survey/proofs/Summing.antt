@@ -40,9 +40,9 @@ module _ {K : Type 0} (spelled : K → List ℕ) (header : List ℕ) (word : (k 
       let p = one_outcome (all_taken spelled header) word apart single text [] h.js h'.js h.reading h'.reading h.outcome h'.outcome in
       h.is ∙ ap (summary_of kind h.js) p.0 ∙ ap (λ l. summary_of kind l h'.reading) p.1 ∙ sym h'.is
 
--- what refuses nothing has no number out of its layer
-never_within : (e : Never) → (21 ≤ 0) × (0 ≤ 26)
-never_within e = elim e [ ]
+-- the number that no call answers is one of its layer
+never_within : (e : Never) → (21 ≤ 24) × (24 ≤ 26)
+never_within e = (omega arith, omega arith)
 
 -- the fault of a summary is that of the reading
 module _ {K : Type 0} (spelled : K → List ℕ) (header : List ℕ) (kind : Kind) (text : List ℕ) (f : Fault) where

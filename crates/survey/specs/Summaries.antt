@@ -19,7 +19,7 @@ kind_word Numbers = codes "numbers"
 
 -- every join is taken
 abbrev pub all_taken : {K : Type 0} → (K → List ℕ) → List ℕ → Setting K Never
-all_taken spelled header = record { spelled = spelled; header = header; rule = λ _ _. None; numbered = λ _. 0 }
+all_taken spelled header = record { spelled = spelled; header = header; rule = λ _ _. None; numbered = λ _. 24 }
 
 abbrev pub summary : {K : Type 0} → Kind → List (Join K) → Summary
 summary kind js = record { kind = kind; joins = length js; sizes = sizes_of js }

@@ -16,17 +16,21 @@ pub struct Census<K> {
     keys: PhantomData<K>,
 }
 
-/// The refusals of what refuses nothing: there are none.
+/// The refusal of a taker that always has room: no call answers it.
 #[derive(Drop)]
-pub enum Never {}
+pub enum Never {
+    Full,
+}
 
 impl JobRefusal for Never {
-    ghost numbered = { λ _. 0 };
+    ghost numbered = { λ _. 24 };
 
     ghost within = { Prim.search rules };
 
     fn number(&self) -> u8 {
-        match *self {}
+        match self {
+            Never::Full => 24,
+        }
     }
 }
 
@@ -54,6 +58,7 @@ impl<K: Spelled + Headed> Taker for Census<K> {
     ghost rule = { λ _ _. None };
 
     fn take(&mut self, join: Join<K>) -> Result<(), Never>
+        ensures accepts { result ≡ Ok tt }
         ensures answers { Answers {J = Join K} (Counted self.old.joins self.old.sizes) (λ _ _. None) join result }
         ensures grows { Grows {J = Join K} (Counted self.old.joins self.old.sizes) (Counted self.new.joins self.new.sizes) join result }
     {

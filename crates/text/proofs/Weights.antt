@@ -4,7 +4,7 @@ use lib.Signed.{mag}
 use Rattle.std.specs.Fmt.{signed_decimal}
 use Rattle.std.proofs.lemmas.Fmt.{decimal_injective}
 use Rattle.keys.specs.Words.{Word}
-use Rattle.keys.specs.Spelt.{decimal_word}
+use Rattle.keys.specs.Laws.{decimal_word}
 use Rattle.keys.proofs.Numbers.{all_digits}
 use Rattle.text.specs.Lines.{Short, NoWeight}
 use Rattle.text.proofs.Cuts.{lacks_cons}

@@ -10,6 +10,7 @@ returns g c =
     let size : c.unsigned_abs.result ≡ nat_abs c.args.join.weight = c.unsigned_abs.ensures.value ∙ ap nat_abs (to_z-of_z w32 c.args.join.weight fits) in
     let sum : c.saturating_add-self-2.result ≡ min (before.sizes + c.unsigned_abs.result) (2 ^ 64 - 1) = c.saturating_add-self-2.ensures in
     record {
+      accepts = refl;
       answers = λ js h. refl;
       grows = λ js h.
           let m = one_more before.joins before.sizes js c.args.join h in

@@ -1,4 +1,4 @@
--- Keys are spelled by words, each by its own. Assumes nothing.
+-- What every kind of key keeps to, of numbers and of names: each key is spelled by a word, and no two by the same. Assumes nothing.
 use Rattle.std.proofs.Common.{◌≡◌, ℕ, zero, suc, ◌-◌, ◌^◌, ◌<◌, ◌≤◌, true, false, ◌&&◌, leb, List, [], ◌∷◌, ◌++◌, length, get_or, drop, replicate, decimal, sym, refl, ap, ◌∙◌, subst, arith}
 use mathlib.Core.Bool.{Bool-set}
 use mathlib.Core.HLevel.{is_prop→PathP}
