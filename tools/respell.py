@@ -3,9 +3,10 @@
 
 usage: python3 tools/respell.py      at the top of the repository, once, after the toolchain's own script
 
-A name in camel case or with a dash becomes snake case, in specs/, in proofs/ and in the clauses of src/, and in the text
-of docs/ and of README.md. Functions of src/, types, strings, inputs and outputs keep their names. It stops, and writes
-nothing, where two names would fall together.
+A name in camel case or with a dash becomes snake case: in specs/ and proofs/, in src/ outside strings and comments (the
+listed names stand only in clauses there), and in the pages, but for docs/PORT.md, which names the old ones. Functions of
+src/, types, strings of the code, inputs and outputs keep their names. It stops, and writes nothing, where two names would
+fall together.
 """
 
 import pathlib
@@ -69,7 +70,7 @@ def files(top):
 
 
 def pages(top):
-    yield from sorted(top.glob("docs/*.md"))
+    yield from (p for p in sorted(top.glob("docs/*.md")) if p.name != "PORT.md")
     yield top / "README.md"
 
 
@@ -92,8 +93,9 @@ def main():
         for old, new in NAMES.items():
             if new in here and old in here:
                 clash.setdefault((old, new), path)
-    if clash or len(set(NAMES.values())) < len(NAMES):
-        sys.exit("respell: names fall together: " + ", ".join(f"{o} and {n} in {p}" for (o, n), p in clash.items()))
+    twice = sorted({n for n in NAMES.values() if list(NAMES.values()).count(n) > 1})
+    if clash or twice:
+        sys.exit("respell: names fall together: " + ", ".join([f"{o} and {n} in {p}" for (o, n), p in clash.items()] + twice))
     for path in [*texts, *pages(top)]:
         if not path.is_file():
             continue

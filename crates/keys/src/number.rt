@@ -33,7 +33,7 @@ impl NumberKey {
 }
 
 impl Key for NumberKey {
-    ghost same = { λ a b. (a.value == b.value) };
+    ghost same = { λ a b. a.value == b.value };
 
     ghost home = { λ a. a.value };
 

@@ -12,6 +12,8 @@ use Rattle.text.proofs.Only.{one_outcome}
 use Rattle.text.proofs.Pieces.{named_outcome}
 use Rattle.text.specs.Pieces.{Named, NamedBy}
 use Rattle.survey.specs.declared.census.Never.{Never}
+use Rattle.survey.specs.declared.census.Never.TheVariants.{Full}
+use Rattle.survey.specs.Census.{never_number}
 use Rattle.survey.specs.Summaries.{all_taken, summary, summary_of, Summed}
 use Rattle.survey.specs.declared.summary.Kind.{Kind}
 use Rattle.survey.specs.declared.summary.Summary.{Summary}
@@ -41,8 +43,8 @@ module _ {K : Type 0} (spelled : K → List ℕ) (header : List ℕ) (word : (k 
       h.is ∙ ap (summary_of kind h.js) p.0 ∙ ap (λ l. summary_of kind l h'.reading) p.1 ∙ sym h'.is
 
 -- the number that no call answers is one of its layer
-never_within : (e : Never) → (21 ≤ 24) × (24 ≤ 26)
-never_within e = (omega arith, omega arith)
+never_within : (e : Never) → (21 ≤ never_number e) × (never_number e ≤ 26)
+never_within Full = (omega arith, omega arith)
 
 -- the fault of a summary is that of the reading
 module _ {K : Type 0} (spelled : K → List ℕ) (header : List ℕ) (kind : Kind) (text : List ℕ) (f : Fault) where

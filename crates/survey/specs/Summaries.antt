@@ -7,7 +7,7 @@ use Rattle.faults.specs.declared.places.Fault.{Fault}
 use Rattle.text.specs.Boards.{Begins, Setting, Outcome}
 use Rattle.text.specs.Pieces.{Named}
 use Rattle.text.specs.declared.takers.Join.{Join}
-use Rattle.survey.specs.Census.{sizes_of}
+use Rattle.survey.specs.Census.{sizes_of, never_number}
 use Rattle.survey.specs.declared.census.Never.{Never}
 use Rattle.survey.specs.declared.summary.Kind.{Kind}
 use Rattle.survey.specs.declared.summary.Kind.TheVariants.{Names, Numbers}
@@ -19,7 +19,7 @@ kind_word Numbers = codes "numbers"
 
 -- every join is taken
 abbrev pub all_taken : {K : Type 0} → (K → List ℕ) → List ℕ → Setting K Never
-all_taken spelled header = record { spelled = spelled; header = header; rule = λ _ _. None; numbered = λ _. 24 }
+all_taken spelled header = record { spelled = spelled; header = header; rule = λ _ _. None; numbered = never_number }
 
 abbrev pub summary : {K : Type 0} → Kind → List (Join K) → Summary
 summary kind js = record { kind = kind; joins = length js; sizes = sizes_of js }

@@ -1,7 +1,7 @@
 //! The simplest taker: it counts joins and adds up the sizes of their weights.
 ghost use Rattle.std.specs.Prelude.{◌≡◌, None};
 ghost use Rattle.text.specs.Joins.{Answers, Grows};
-ghost use Rattle.survey.specs.Census.{Counted};
+ghost use Rattle.survey.specs.Census.{Counted, never_number};
 ghost use Rattle.std.proofs.Common.{rules};
 
 use keys::Spelled;
@@ -23,7 +23,7 @@ pub enum Never {
 }
 
 impl JobRefusal for Never {
-    ghost numbered = { λ _. 24 };
+    ghost numbered = { never_number };
 
     ghost within = { Prim.search rules };
 

@@ -5,7 +5,6 @@ ghost use Rattle.trials.specs.Desk.{reason_number, Holds, ruled};
 ghost use Rattle.std.proofs.Common.{rules};
 
 use keys::Key;
-use keys::kinds::Key as _;
 use keys::name::NameKey;
 use text::takers::{JobRefusal, Join, Taker};
 
