@@ -5,6 +5,7 @@ use Rattle.std.proofs.lemmas.Bool.{cases_eq, cases_lt}
 use Rattle.std.proofs.lemmas.Bool.Decides.{nat_tests}
 use Rattle.cuts.specs.Sums.{put}
 use Rattle.cuts.specs.Boards.{Board, Sound, Split, cut, value}
+use Rattle.cuts.specs.declared.Tie.{Tie}
 use Rattle.cuts.specs.Merging.{two, merged, beside, lifted, shift, MergedReduces, RemovedReduces}
 use Rattle.cuts.proofs.Building.{outside}
 use Rattle.cuts.proofs.Merging.{merged_sound, merged_exact}
@@ -12,18 +13,18 @@ use Rattle.cuts.proofs.Sizes.{merged_lighter}
 use Rattle.cuts.proofs.Values.{cut_zero, across_cong, across_like}
 
 -- a split that has v where lifting puts it
-merged_covers : (opposed : Bool) (b : Board) (v u : ℕ) (t : Split) → Sound b → two b v u ≡ true → t v ≡ beside opposed (t u) → value b t ≡ value (merged opposed v u b) t +ℤ shift opposed v b
-merged_covers opposed b v u t sound h e = across_like b.weight b.nets t (lifted opposed v u t) (λ i p. grind (arith, nat_tests)) ∙ merged_exact opposed b v u t sound h
+merged_covers : (tie : Tie) (b : Board) (v u : ℕ) (t : Split) → Sound b → two b v u ≡ true → t v ≡ beside tie (t u) → value b t ≡ value (merged tie v u b) t +ℤ shift tie v b
+merged_covers tie b v u t sound h e = across_like b.weight b.nets t (lifted tie v u t) (λ i p. grind (arith, nat_tests)) ∙ merged_exact tie b v u t sound h
 
 pub merged_reduces : MergedReduces
-merged_reduces opposed b v u sound h settled = record {
+merged_reduces tie b v u sound h settled = record {
   nets = refl;
   fewer = λ x p. grind (arith, nat_tests);
-  sound = merged_sound opposed b v u sound h;
-  lighter = omega (arith, ints, merged_lighter opposed b v u sound h);
+  sound = merged_sound tie b v u sound h;
+  lighter = omega (arith, ints, merged_lighter tie b v u sound h);
   keeps = λ s x p. grind (arith, nat_tests);
-  exact = λ s. merged_exact opposed b v u s sound h;
-  covers = λ s. ((settled s).0, omega (arith, ints, (settled s).2, merged_covers opposed b v u (settled s).0 sound h (settled s).1));
+  exact = λ s. merged_exact tie b v u s sound h;
+  covers = λ s. ((settled s).0, omega (arith, ints, (settled s).2, merged_covers tie b v u (settled s).0 sound h (settled s).1));
 }
 
 pub removed_reduces : RemovedReduces

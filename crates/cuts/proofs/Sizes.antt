@@ -6,6 +6,8 @@ use Rattle.std.proofs.lemmas.Bool.Decides.{nat_tests}
 use Rattle.cuts.specs.Sums.{∑, pairs, omit}
 use Rattle.cuts.specs.Boards.{Board, Sound, Weights, size, bulk, sizes, sizes_at, sum_at}
 use Rattle.cuts.specs.Building.{added, paired, weighed}
+use Rattle.cuts.specs.declared.Tie.{Tie}
+use Rattle.cuts.specs.declared.Tie.TheVariants.{Joined, Opposed}
 use Rattle.cuts.specs.Merging.{without, two, passed, merged, MergedLighter}
 use Rattle.cuts.proofs.Sums.{∑_cong, ∑_zero, ∑_past, ∑_split, ∑_each}
 use Rattle.cuts.proofs.Pairs.{pairs_cong, pairs_mono, pairs_at, pairs_natural, pairs_add, pairs_more, star, star_pairs}
@@ -51,12 +53,12 @@ sizes_row b v m sound h = ∑_past m b.nets _ h (λ u p. ap size (outside b v u 
 pub sum_row : (b : Board) (v m : ℕ) → Sound b → b.nets ≤ m → ∑ m (b.weight v) ≡ sum_at b v
 sum_row b v m sound h = ∑_past m b.nets _ h (λ u p. outside b v u sound p)
 
-sized : (opposed : Bool) (z : ℤ) → size (passed opposed z) ≡ size z
-sized true z = omega (arith, ints)
-sized false z = refl
+sized : (tie : Tie) (z : ℤ) → size (passed tie z) ≡ size z
+sized Opposed z = omega (arith, ints)
+sized Joined z = refl
 
 pub merged_lighter : MergedLighter
-merged_lighter opposed b v u sound h =
+merged_lighter tie b v u sound h =
     let t = two_tells b v u h in
     let n : ℕ = b.nets in
     let w : Weights = b.weight in
@@ -65,15 +67,15 @@ merged_lighter opposed b v u sound h =
     let c = pairs_add n (λ i j. size (without v w i j)) (star u f) in
     let e = star_pairs n u f (sound.inside u t.second) in
     let k = ∑_split n u f (sound.inside u t.second) in
-    let m : sizes (merged opposed v u b) ≤ℤ pairs n (λ i j. size (without v w i j) +ℤ star u f i j) = pairs_mono n _ _ (λ i j p q. at i j p t.apart) in
+    let m : sizes (merged tie v u b) ≤ℤ pairs n (λ i j. size (without v w i j) +ℤ star u f i j) = pairs_mono n _ _ (λ i j p q. at i j p t.apart) in
     omega (arith, ints)
   where
-    starred : (i j : ℕ) → size (star u (λ k. passed opposed (b.weight v k)) i j) ≡ star u (λ k. size (b.weight v k)) i j
+    starred : (i j : ℕ) → size (star u (λ k. passed tie (b.weight v k)) i j) ≡ star u (λ k. size (b.weight v k)) i j
     starred i j = grind (arith, nat_tests, sized)
 
-    at : (i j : ℕ) → i < j → (v ≡ u → ⊥) → size ((merged opposed v u b).weight i j) ≤ℤ (size (without v b.weight i j) +ℤ star u (λ k. size (b.weight v k)) i j)
+    at : (i j : ℕ) → i < j → (v ≡ u → ⊥) → size ((merged tie v u b).weight i j) ≤ℤ (size (without v b.weight i j) +ℤ star u (λ k. size (b.weight v k)) i j)
     at i j p d =
-        let e = merged_is opposed b v u sound d i j p in
+        let e = merged_is tie b v u sound d i j p in
         let y = starred i j in
         omega (arith, ints, ap size e)
 
@@ -106,15 +108,15 @@ weighed_sizes b v u z sound h =
     at j d = grind (arith, nat_tests)
 
 -- by the rows of the two nets, before and after
-pub merged_sizes : (opposed : Bool) (b : Board) (v u : ℕ) → Sound b → two b v u ≡ true → sizes (merged opposed v u b) +ℤ (sizes_at b v +ℤ sizes_at b u) ≡ (sizes b +ℤ size (b.weight v u)) +ℤ sizes_at (merged opposed v u b) u
-merged_sizes opposed b v u sound h =
+pub merged_sizes : (tie : Tie) (b : Board) (v u : ℕ) → Sound b → two b v u ≡ true → sizes (merged tie v u b) +ℤ (sizes_at b v +ℤ sizes_at b u) ≡ (sizes b +ℤ size (b.weight v u)) +ℤ sizes_at (merged tie v u b) u
+merged_sizes tie b v u sound h =
     let t = two_tells b v u h in
     let n : ℕ = b.nets in
     let w : Weights = b.weight in
-    let x : Weights = (merged opposed v u b).weight in
+    let x : Weights = (merged tie v u b).weight in
     let hv = sound.inside v t.first in
     let hu = sound.inside u t.second in
-    let s = merged_sound opposed b v u sound h in
+    let s = merged_sound tie b v u sound h in
     let a = bulk_at w n v sound.symmetric (sound.hollow v) hv in
     let c = bulk_at (without v w) n u (λ i j. bare i j) (grind (arith, nat_tests, sound.hollow)) hu in
     let d = bulk_at x n u s.symmetric (s.hollow u) hu in

@@ -3,6 +3,8 @@ use Rattle.std.specs.Prelude.{◌≡◌, ℕ, ◌<◌, Bool, true, false, cond, 
 use Rattle.cuts.specs.Sums.{put, omit}
 use Rattle.cuts.specs.Boards.{Board, Weights, Sound, Split, value, size, sizes, sum_at}
 use Rattle.cuts.specs.Reductions.{Reduces}
+use Rattle.cuts.specs.declared.Tie.{Tie}
+use Rattle.cuts.specs.declared.Tie.TheVariants.{Joined, Opposed}
 
 -- w with the weights at v replaced by f
 abbrev pub placed : ℕ → (ℕ → ℤ) → Weights → Weights
@@ -17,59 +19,59 @@ abbrev pub two : Board → ℕ → ℕ → Bool
 two b v u = not (v == u) && (b.stands v && b.stands u)
 
 -- what u gets of a weight of v: the weight as v joins it, its negative as v is opposed to it
-abbrev pub passed : Bool → ℤ → ℤ
-passed false z = z
-passed true z = neg_ℤ z
+abbrev pub passed : Tie → ℤ → ℤ
+passed Joined z = z
+passed Opposed z = neg_ℤ z
 
 -- the weights at u as v is joined to it, or opposed to it
-abbrev pub grown : Bool → ℕ → ℕ → Weights → ℕ → ℤ
-grown opposed v u w = omit u (λ j. w u j +ℤ passed opposed (w v j))
+abbrev pub grown : Tie → ℕ → ℕ → Weights → ℕ → ℤ
+grown tie v u w = omit u (λ j. w u j +ℤ passed tie (w v j))
 
 -- b as v has gone and these weights are left
 abbrev pub leaving : ℕ → Weights → Board → Board
 leaving v w b = record { nets = b.nets; stands = put v false b.stands; weight = w }
 
 -- b as v has been joined to u, or opposed to it, and is gone
-abbrev pub merged : Bool → ℕ → ℕ → Board → Board
-merged opposed v u b = leaving v (without v (placed u (grown opposed v u b.weight) b.weight)) b
+abbrev pub merged : Tie → ℕ → ℕ → Board → Board
+merged tie v u b = leaving v (without v (placed u (grown tie v u b.weight) b.weight)) b
 
 -- the side of v by that of u
-abbrev pub beside : Bool → Bool → Bool
-beside false side = side
-beside true side = not side
+abbrev pub beside : Tie → Bool → Bool
+beside Joined side = side
+beside Opposed side = not side
 
-abbrev pub lifted : Bool → ℕ → ℕ → Split → Split
-lifted opposed v u s = put v (beside opposed (s u)) s
+abbrev pub lifted : Tie → ℕ → ℕ → Split → Split
+lifted tie v u s = put v (beside tie (s u)) s
 
 -- nothing in joining, the sum of the weights at v in opposing
-abbrev pub shift : Bool → ℕ → Board → ℤ
-shift false v b = pos 0
-shift true v b = sum_at b v
+abbrev pub shift : Tie → ℕ → Board → ℤ
+shift Joined v b = pos 0
+shift Opposed v b = sum_at b v
 
 -- pair by pair
-pub record Merges (opposed : Bool) (v u : ℕ) (before after : Weights) : Type 0 where
-  pub with_u : (x : ℕ) → (x ≢ v) → (x ≢ u) → after u x ≡ before u x +ℤ passed opposed (before v x)
+pub record Merges (tie : Tie) (v u : ℕ) (before after : Weights) : Type 0 where
+  pub with_u : (x : ℕ) → (x ≢ v) → (x ≢ u) → after u x ≡ before u x +ℤ passed tie (before v x)
   pub with_v : (x : ℕ) → after v x ≡ pos 0
   pub others : (x y : ℕ) → (x ≢ v) → (x ≢ u) → (y ≢ v) → (y ≢ u) → after x y ≡ before x y
 
 abbrev pub MergedWeights : Type 0
-MergedWeights = (opposed : Bool) (b : Board) (v u : ℕ) → two b v u ≡ true → Merges opposed v u b.weight (merged opposed v u b).weight
+MergedWeights = (tie : Tie) (b : Board) (v u : ℕ) → two b v u ≡ true → Merges tie v u b.weight (merged tie v u b).weight
 
 abbrev pub MergedSound : Type 0
-MergedSound = (opposed : Bool) (b : Board) (v u : ℕ) → Sound b → two b v u ≡ true → Sound (merged opposed v u b)
+MergedSound = (tie : Tie) (b : Board) (v u : ℕ) → Sound b → two b v u ≡ true → Sound (merged tie v u b)
 
 abbrev pub MergedExact : Type 0
-MergedExact = (opposed : Bool) (b : Board) (v u : ℕ) (s : Split) → Sound b → two b v u ≡ true → value b (lifted opposed v u s) ≡ value (merged opposed v u b) s +ℤ shift opposed v b
+MergedExact = (tie : Tie) (b : Board) (v u : ℕ) (s : Split) → Sound b → two b v u ≡ true → value b (lifted tie v u s) ≡ value (merged tie v u b) s +ℤ shift tie v b
 
 abbrev pub MergedLighter : Type 0
-MergedLighter = (opposed : Bool) (b : Board) (v u : ℕ) → Sound b → two b v u ≡ true → (sizes (merged opposed v u b) +ℤ size (b.weight v u)) ≤ℤ sizes b
+MergedLighter = (tie : Tie) (b : Board) (v u : ℕ) → Sound b → two b v u ≡ true → (sizes (merged tie v u b) +ℤ size (b.weight v u)) ≤ℤ sizes b
 
 -- v may as well be where lifting puts it
-abbrev pub Settled : Bool → ℕ → ℕ → Board → Type 0
-Settled opposed v u b = (s : Split) → (t : Split) × (t v ≡ beside opposed (t u)) × (value b s ≤ℤ value b t)
+abbrev pub Settled : Tie → ℕ → ℕ → Board → Type 0
+Settled tie v u b = (s : Split) → (t : Split) × (t v ≡ beside tie (t u)) × (value b s ≤ℤ value b t)
 
 abbrev pub MergedReduces : Type 0
-MergedReduces = (opposed : Bool) (b : Board) (v u : ℕ) → Sound b → two b v u ≡ true → Settled opposed v u b → Reduces b (merged opposed v u b) (lifted opposed v u) (shift opposed v b)
+MergedReduces = (tie : Tie) (b : Board) (v u : ℕ) → Sound b → two b v u ≡ true → Settled tie v u b → Reduces b (merged tie v u b) (lifted tie v u) (shift tie v b)
 
 -- v has no connection
 abbrev pub Lone : ℕ → Board → Type 0

@@ -5,6 +5,13 @@ ghost use Rattle.cuts.specs.Merging.{MergedWeights, MergedSound, MergedExact, Me
 ghost use Rattle.cuts.specs.Reductions.{ReducesBest, BestShifted, ReducesThen, ReducesNot, ShiftBounded};
 ghost use Rattle.cuts.specs.Values.{OneSide, Turning, Flipping, Bounded, BestExists, BestUnique, BestNatural, BestOfNone};
 
+/// How a net is merged into another: it takes the other's side, or the opposite one.
+#[derive(Clone, Copy, PartialEq, Eq, Debug)]
+pub enum Tie {
+    Joined,
+    Opposed,
+}
+
 /// What the value of a split keeps to.
 pub fn value_laws()
     ensures together { OneSide }

@@ -1,2 +1,4 @@
+pub mod Nets
 pub mod Rows
+pub mod Matrices
 pub mod Splits

@@ -1,7 +1,11 @@
--- Weights in rows: 120 rows of 120, one after another. Assumes nothing.
-use Rattle.std.specs.Prelude.{◌+◌, ◌*◌, cond, ◌&&◌, List, ℤ, pos, nat_lt, slice_index_or}
+-- Weights in rows, one row for each net. Assumes nothing.
+use Rattle.std.specs.Prelude.{◌≡◌, ℕ, ◌<◌, List, [], length, ℤ, pos, slice_index_or}
 use Rattle.cuts.specs.Boards.{Weights}
 
 -- there is no weight outside the rows
-abbrev pub weight_in : List ℤ → Weights
-weight_in cells v u = cond (nat_lt v 120 && nat_lt u 120) (slice_index_or cells (120 * v + u) (pos 0)) (pos 0)
+abbrev pub weight_at : List (List ℤ) → Weights
+weight_at rows v u = slice_index_or (slice_index_or rows v []) u (pos 0)
+
+-- each row has 120 weights
+abbrev pub Wide : List (List ℤ) → Type 0
+Wide rows = (v : ℕ) → v < 120 → length (slice_index_or rows v []) ≡ 120

@@ -1,5 +1,5 @@
 //! Nets by their numbers.
-ghost use Rattle.std.specs.Prelude.{◌≡◌, ◌+◌, ◌<◌, ◌⊎◌, MatchOption};
+ghost use Rattle.std.specs.Prelude.{◌≡◌, ◌+◌, ◌<◌};
 
 /// The most nets that a board may have.
 pub const NETS: usize = 120;
@@ -11,23 +11,31 @@ pub struct Net {
     ghost within: { index < 120 },
 }
 
-impl Net {
-    /// The net of this number, unless no board has one.
-    pub fn numbered(number: u8) -> Option<Net>
-        ensures { MatchOption result ((number ≡ 0) ⊎ (120 < number)) (λ v. v.index + 1 ≡ number) }
-    {
+/// A number that is none of a net.
+#[derive(Clone, Copy, PartialEq, Eq, Debug)]
+pub struct NoNet(pub u8);
+
+impl TryFrom<u8> for Net {
+    ghost use Rattle.grid.specs.Nets.{Numbers};
+
+    type Error = NoNet;
+
+    ghost try_from_gives = { Numbers };
+
+    fn try_from(number: u8) -> Result<Net, NoNet> {
         if number == 0 || number > 120 {
-            return None;
+            return Err(NoNet(number));
         }
-        Some(Net {
-            index: number as usize - 1,
+        Ok(Net {
+            index: usize::from(number) - 1,
         })
     }
+}
 
-    /// The net's number.
-    pub fn number(self) -> u8
-        ensures { result ≡ self.index + 1 }
-    {
-        self.index as u8 + 1
+impl From<Net> for u8 {
+    ghost from_gives = { λ v number. number ≡ v.index + 1 };
+
+    fn from(v: Net) -> u8 {
+        v.index as u8 + 1
     }
 }

@@ -38,9 +38,6 @@ impl<'a> Split for Sheet<'a> {
     ghost sides = { λ s. byte_sides s.bytes.now };
 
     fn on_b(&self, v: Net) -> bool {
-        match self.bytes.get(v.index) {
-            Some(byte) => *byte == 1,
-            None => false,
-        }
+        self.bytes.get(v.index) == Some(&1)
     }
 }
