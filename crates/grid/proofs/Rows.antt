@@ -1,13 +1,17 @@
 -- Writes to the rows of weights.
 use Rattle.std.proofs.Common.{◌≡◌, ℕ, ◌+◌, ◌*◌, ◌<◌, ◌≤◌, cond, ◌&&◌, eqb, ltb, ◌⊎◌, List, [], length, get_or, set, replicate, ℤ, pos, ap, ◌∙◌, sym, inl, inr, arith, length-set}
+use mathlib.Core.HLevel.{is_prop→PathP}
 use mathlib.Core.Path.{fun_ext}
-use Rattle.std.proofs.lemmas.List.{get_or-set_same, get_or-set_other, get_or_past, get_or-replicate, length-replicate}
+use denote.Struct.Props.{props}
+use Rattle.std.proofs.lemmas.List.{get_or-set_same, get_or-set_other, get_or_past, ext_get_or, get_or-replicate, length-replicate}
 use Rattle.std.proofs.lemmas.Bool.{cases_eq, cases_lt, cases_order}
 use Rattle.std.proofs.lemmas.Bool.Decides.{nat_tests}
 use Rattle.cuts.specs.Boards.{Weights}
 use Rattle.cuts.specs.Building.{paired}
 use Rattle.cuts.specs.Merging.{placed}
+use Rattle.grid.specs.Matrices.{weight_in}
 use Rattle.grid.specs.Rows.{weight_at, Wide}
+use Rattle.grid.specs.declared.matrix.Matrix.{Matrix}
 
 -- no weights anywhere
 pub weightless : (n m : ℕ) (v u : ℕ) → weight_at (replicate n (replicate m (pos 0))) v u ≡ pos 0
@@ -21,6 +25,20 @@ weightless n m v u = elim (cases_lt v n) [
       | inl h ↦ get_or-replicate m u (pos 0) (pos 0) h
       | inr h ↦ get_or_past (replicate m (pos 0)) u (pos 0) (omega (arith, length-replicate m (pos 0)))
     ]
+
+-- matrices of the same rows are the same, and so are those of the same weights
+pub same_matrix : (m n : Matrix) → m.rows ≡ n.rows → m ≡ n
+same_matrix m n same = λ i. record {
+  rows = same i;
+  long = is_prop→PathP (λ j. length (same j) ≡ 120) (λ j. hlevel props) m.long n.long i;
+  wide = is_prop→PathP (λ j. Wide (same j)) (λ j. hlevel props) m.wide n.wide i;
+}
+
+pub same_weights : (m n : Matrix) → weight_in m ≡ weight_in n → m ≡ n
+same_weights m n e = same_matrix m n (ext_get_or [] m.rows n.rows (m.long ∙ sym n.long) row)
+  where
+    row : (v : ℕ) → v < length m.rows → get_or m.rows v [] ≡ get_or n.rows v []
+    row v h = ext_get_or (pos 0) _ _ (m.wide v (omega (arith, m.long)) ∙ sym (n.wide v (omega (arith, m.long)))) (λ u p. ap (λ (w : Weights). w v u) e)
 
 -- w with the weight at v, u replaced, and not that at u, v
 abbrev one : ℕ → ℕ → ℤ → Weights → Weights

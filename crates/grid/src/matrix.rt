@@ -39,7 +39,8 @@ impl Matrix {
 
     /// The weights at a net.
     pub fn row(&self, v: Net) -> &[i32; NETS]
-        ensures { (u : ℕ) → slice_index_or result.now u (pos 0) ≡ weight_in self.now v.index u }
+        ensures long { length result.now ≡ 120 }
+        ensures weights { (u : ℕ) → slice_index_or result.now u (pos 0) ≡ weight_in self.now v.index u }
     {
         &self.rows[v.index]
     }

@@ -11,6 +11,15 @@ pub struct Net {
     ghost within: { index < 120 },
 }
 
+/// The first net.
+impl Default for Net {
+    ghost is_default = { λ v. v.index ≡ 0 };
+
+    fn default() -> Net {
+        Net { index: 0 }
+    }
+}
+
 /// A number that is none of a net.
 #[derive(Clone, Copy, PartialEq, Eq, Debug)]
 pub struct NoNet(pub u8);

@@ -4,6 +4,7 @@ use Rattle.std.proofs.lemmas.Int.{ints}
 use Rattle.std.proofs.lemmas.Bool.{both_ways}
 use Rattle.cuts.specs.Boards.{Board, Sound, connections}
 use Rattle.cuts.specs.Building.{weighed}
+use Rattle.cuts.specs.declared.Tie.{Tie}
 use Rattle.cuts.specs.Merging.{two, merged, removed, shift}
 use Rattle.cuts.proofs.Merging.{merged_exact}
 use Rattle.cuts.proofs.Sizes.{merged_lighter}
@@ -16,14 +17,14 @@ set_heavy v u z b p q = rw (p, q) (refl, refl)
 pub set_done : (v u : ℕ) (z : ℤ) (b : Board) → two b v u ≡ true → light (weighed v u z b) ≡ true → (Ok tt ≡ set_answer v u z b) × (weighed v u z b ≡ after_setting v u z b)
 set_done v u z b p q = rw (p, q) (refl, refl)
 
-pub merge_done : (opposed : Bool) (v u : ℕ) (b : Board) → two b v u ≡ true → (Some (shift opposed v b) ≡ merge_answer opposed v u b) × (merged opposed v u b ≡ after_merging opposed v u b)
-merge_done opposed v u b p = rw p (refl, refl)
+pub merge_done : (tie : Tie) (v u : ℕ) (b : Board) → two b v u ≡ true → (Some (shift tie v b) ≡ merge_answer tie v u b) × (merged tie v u b ≡ after_merging tie v u b)
+merge_done tie v u b p = rw p (refl, refl)
 
-pub merge_exact : (opposed : Bool) (v u : ℕ) (b after : Board) → Sound b → two b v u ≡ true → after ≡ merged opposed v u b → MergesExactly opposed v u b after
-merge_exact opposed v u b after sound two e = subst (MergesExactly opposed v u b) (sym e) (record { exact = λ h s. merged_exact opposed b v u s sound h; lighter = omega (arith, ints, merged_lighter opposed b v u sound two) })
+pub merge_exact : (tie : Tie) (v u : ℕ) (b after : Board) → Sound b → two b v u ≡ true → after ≡ merged tie v u b → MergesExactly tie v u b after
+merge_exact tie v u b after sound two e = subst (MergesExactly tie v u b) (sym e) (record { exact = λ h s. merged_exact tie b v u s sound h; lighter = omega (arith, ints, merged_lighter tie b v u sound two) })
 
-pub merge_refused : (opposed : Bool) (v u : ℕ) (b : Board) → two b v u ≡ false → (None ≡ merge_answer opposed v u b) × (b ≡ after_merging opposed v u b) × MergesExactly opposed v u b b
-merge_refused opposed v u b e = (rw e refl, rw e refl, record { exact = λ h. absurd (both_ways (two b v u) e h); lighter = omega (arith, ints) })
+pub merge_refused : (tie : Tie) (v u : ℕ) (b : Board) → two b v u ≡ false → (None ≡ merge_answer tie v u b) × (b ≡ after_merging tie v u b) × MergesExactly tie v u b b
+merge_refused tie v u b e = (rw e refl, rw e refl, record { exact = λ h. absurd (both_ways (two b v u) e h); lighter = omega (arith, ints) })
 
 pub remove_done : (v : ℕ) (b : Board) → b.stands v ≡ true → connections b v ≡ 0 → (true ≡ removable v b) × (removed v b ≡ after_removing v b)
 remove_done v b p q = rw (p, q) (refl, refl)

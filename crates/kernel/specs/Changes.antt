@@ -3,6 +3,7 @@ use Rattle.std.specs.Prelude.{◌≡◌, ℕ, Bool, true, cond, ◌&&◌, ℤ, p
 use Rattle.cuts.specs.Boards.{Board, Split, value, sizes, connections}
 use Rattle.cuts.specs.Building.{added, weighed}
 use Rattle.cuts.specs.Merging.{two, merged, lifted, removed, shift}
+use Rattle.cuts.specs.declared.Tie.{Tie}
 use Rattle.kernel.specs.declared.changes.SetRefusal.{SetRefusal}
 use Rattle.kernel.specs.declared.changes.SetRefusal.TheVariants.{NotTwo, TooHeavy}
 
@@ -23,15 +24,15 @@ set_answer v u z b = cond (two b v u) (cond (light (weighed v u z b)) (Ok tt) (E
 abbrev pub after_setting : ℕ → ℕ → ℤ → Board → Board
 after_setting v u z b = cond (two b v u && light (weighed v u z b)) (weighed v u z b) b
 
-abbrev pub merge_answer : Bool → ℕ → ℕ → Board → Option ℤ
-merge_answer opposed v u b = cond (two b v u) (Some (shift opposed v b)) None
+abbrev pub merge_answer : Tie → ℕ → ℕ → Board → Option ℤ
+merge_answer tie v u b = cond (two b v u) (Some (shift tie v b)) None
 
-abbrev pub after_merging : Bool → ℕ → ℕ → Board → Board
-after_merging opposed v u b = cond (two b v u) (merged opposed v u b) b
+abbrev pub after_merging : Tie → ℕ → ℕ → Board → Board
+after_merging tie v u b = cond (two b v u) (merged tie v u b) b
 
 -- every split afterwards, lifted, is worth exactly the shift more before; and the sum of sizes has not grown
-pub record MergesExactly (opposed : Bool) (v u : ℕ) (before after : Board) : Type 0 where
-  pub exact : two before v u ≡ true → (s : Split) → value before (lifted opposed v u s) ≡ value after s +ℤ shift opposed v before
+pub record MergesExactly (tie : Tie) (v u : ℕ) (before after : Board) : Type 0 where
+  pub exact : two before v u ≡ true → (s : Split) → value before (lifted tie v u s) ≡ value after s +ℤ shift tie v before
   pub lighter : sizes after ≤ℤ sizes before
 
 -- v stands and has no connection

@@ -9,9 +9,9 @@ ghost use Rattle.kernel.specs.Changes.{roomy, after_adding, set_answer, after_se
 ghost use Rattle.kernel.specs.Views.{view};
 
 use crate::board::{Kernel, LIMIT};
-use grid::Net;
-use grid::cells::{CELLS, cell_size, put_pair, weight_size};
+use grid::matrix::weight_size;
 use grid::nets::NETS;
+use grid::{Matrix, Net};
 
 /// Why a weight is not set.
 #[derive(Clone, Copy, PartialEq, Eq, Debug)]
@@ -27,7 +27,7 @@ fn resized(kernel: &Kernel, v: Net, u: Net, weight: i32) -> i64
     requires { two (view kernel.now) v.index u.index ≡ true }
     ensures { result ≡ sizes (weighed v.index u.index weight (view kernel.now)) }
 {
-    kernel.sizes - cell_size(&kernel.weights, v, u) + weight_size(weight)
+    kernel.sizes - kernel.weights.size(v, u) + weight_size(weight)
 }
 
 impl Kernel {
@@ -38,7 +38,7 @@ impl Kernel {
         Kernel {
             nets: 0,
             standing: [false; NETS],
-            weights: [0; CELLS],
+            weights: Matrix::new(),
             sizes: 0,
         }
     }
@@ -69,7 +69,7 @@ impl Kernel {
         if sizes > LIMIT {
             return Err(SetRefusal::TooHeavy);
         }
-        put_pair(&mut self.weights, v, u, weight);
+        self.weights.set(v, u, weight);
         self.sizes = sizes;
         Ok(())
     }

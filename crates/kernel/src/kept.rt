@@ -6,7 +6,6 @@ ghost use Rattle.kernel.specs.Views.{view, Faithful};
 
 use crate::board::Kernel;
 use grid::Net;
-use grid::cells::cell;
 
 impl Kernel {
     /// How many nets the board has, those that are gone too.
@@ -27,14 +26,14 @@ impl Kernel {
     pub fn are_two(&self, v: Net, u: Net) -> bool
         ensures { result ≡ two (view self.now) v.index u.index }
     {
-        v.index != u.index && self.stands(v) && self.stands(u)
+        v != u && self.stands(v) && self.stands(u)
     }
 
     /// The weight of a pair.
     pub fn weight(&self, v: Net, u: Net) -> i32
         ensures { result ≡ (view self.now).weight v.index u.index }
     {
-        cell(&self.weights, v, u)
+        self.weights.get(v, u)
     }
 
     /// The sum of the sizes of all weights.
@@ -49,12 +48,6 @@ impl Kernel {
         ensures same { Decides result (view self.now ≡ view other.now) }
         ensures faithful { Faithful }
     {
-        if self.nets != other.nets {
-            return false;
-        }
-        if self.standing != other.standing {
-            return false;
-        }
-        self.weights == other.weights
+        self == other
     }
 }

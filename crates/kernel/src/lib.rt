@@ -5,10 +5,8 @@ pub mod board;
 pub mod changes;
 pub mod kept;
 pub mod merging;
-pub mod order;
 pub mod readings;
 pub mod values;
 
 pub use board::Kernel;
 pub use changes::SetRefusal;
-pub use order::Standing;

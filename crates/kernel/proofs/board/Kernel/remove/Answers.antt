@@ -6,7 +6,7 @@ use Rattle.cuts.proofs.Building.{lone_tells}
 use Rattle.cuts.proofs.Reducing.{removed_reduces}
 use Rattle.kernel.specs.Arrays.{board_in}
 use Rattle.kernel.specs.Views.{view}
-use Rattle.kernel.proofs.Boards.{sound, restood}
+use Rattle.kernel.proofs.Boards.{restood}
 use Rattle.kernel.proofs.Cases.{remove_done}
 use Rattle.kernel.proofs.board.Kernel.remove.Goals as goal
 
@@ -15,29 +15,19 @@ invariant_of-self c =
     let k = c.args.self.now in
     let room : c.args.v.index < length k.standing = search rules in
     let lone = lone_tells (view k) c.args.v.index (sym c.connections.ensures ∙ c.if-connections-ne0.false) in
-    let s : Sound (board_in k.nets (set k.standing c.args.v.index false) k.weights) = subst Sound (sym (restood k k.nets c.args.v.index false room)) (removed_reduces (view k) c.args.v.index (sound k) lone).sound in
+    let s : Sound (board_in k.nets (set k.standing c.args.v.index false) k.weights) = subst Sound (sym (restood k k.nets c.args.v.index false room)) (removed_reduces (view k) c.args.v.index k.sound lone).sound in
     record {
       room = length-set k.standing c.args.v.index false ∙ k.room;
-      long = k.long;
       few = k.few;
-      inside = s.inside;
-      symmetric = s.symmetric;
-      hollow = s.hollow;
-      bare = s.bare;
+      sound = s;
       counted = k.counted;
       light = k.light;
     }
 
-pub returns : goal.returns
-returns c =
+pub returns-clause-reduces : goal.returns-clause-reduces
+returns-clause-reduces c =
     let k = c.args.self.now in
     let v = c.args.v.index in
     let room : v < length k.standing = search rules in
     let none = sym c.connections.ensures ∙ c.if-connections-ne0.false in
-    let r = remove_done v (view k) (sym c.if-not-stands.ensures) none in
-    let board = restood k k.nets v false room in
-    record {
-      answer = r.0;
-      board = board ∙ r.1;
-      reduces = λ _. subst (λ (b : Board). Reduces (view k) b (put v false) (pos 0)) (sym board) (removed_reduces (view k) v (sound k) (lone_tells (view k) v none));
-    }
+    λ _. subst (λ (b : Board). Reduces (view k) b (put v false) (pos 0)) (sym (restood k k.nets v false room)) (removed_reduces (view k) v k.sound (lone_tells (view k) v none))

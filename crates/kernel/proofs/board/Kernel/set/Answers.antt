@@ -6,7 +6,7 @@ use Rattle.cuts.proofs.Building.{weighed_sound}
 use Rattle.kernel.specs.Arrays.{board_in}
 use Rattle.kernel.specs.Changes.{light}
 use Rattle.kernel.specs.Views.{view}
-use Rattle.kernel.proofs.Boards.{sound, repaired}
+use Rattle.kernel.proofs.Boards.{repaired}
 use Rattle.kernel.proofs.Cases.{set_heavy, set_done}
 use Rattle.kernel.proofs.board.Kernel.set.Goals as goal
 
@@ -23,17 +23,13 @@ pub invariant_of-self : goal.invariant_of-self
 invariant_of-self c =
     let k = c.args.self.now in
     let e = to_z-of_z w32 c.args.weight c.ranges.weight in
-    let board = repaired k c.put_pair.new.cells c.args.v.index c.args.u.index _ c.args.weight e c.put_pair.ensures.weights in
-    let s : Sound (board_in k.nets k.standing c.put_pair.new.cells) = subst Sound (sym board) (weighed_sound (view k) c.args.v.index c.args.u.index c.args.weight (sound k) (sym c.if-not-are_two.ensures)) in
-    let total : c.resized-sizes.result ≡ sizes (board_in k.nets k.standing c.put_pair.new.cells) = c.resized-sizes.ensures ∙ ap (λ (z : ℤ). sizes (weighed c.args.v.index c.args.u.index z (view k))) e ∙ ap sizes (sym board) in
+    let board = repaired k c.set.new.self c.args.v.index c.args.u.index _ c.args.weight e c.set.ensures in
+    let s : Sound (board_in k.nets k.standing c.set.new.self) = subst Sound (sym board) (weighed_sound (view k) c.args.v.index c.args.u.index c.args.weight k.sound (sym c.if-not-are_two.ensures)) in
+    let total : c.resized-sizes.result ≡ sizes (board_in k.nets k.standing c.set.new.self) = c.resized-sizes.ensures ∙ ap (λ (z : ℤ). sizes (weighed c.args.v.index c.args.u.index z (view k))) e ∙ ap sizes (sym board) in
     record {
       room = k.room;
-      long = c.put_pair.ensures.long;
       few = k.few;
-      inside = s.inside;
-      symmetric = s.symmetric;
-      hollow = s.hollow;
-      bare = s.bare;
+      sound = s;
       counted = omega (arith, ints);
       light = grind (arith, ints, c.if-sizes-gt-LIMIT.false);
     }
@@ -45,4 +41,4 @@ returns c =
     let total : c.resized-sizes.result ≡ sizes (weighed c.args.v.index c.args.u.index c.args.weight (view k)) = c.resized-sizes.ensures ∙ ap (λ (z : ℤ). sizes (weighed c.args.v.index c.args.u.index z (view k))) e in
     let fine : light (weighed c.args.v.index c.args.u.index c.args.weight (view k)) ≡ true = grind (arith, ints, c.if-sizes-gt-LIMIT.false) in
     let r = set_done c.args.v.index c.args.u.index c.args.weight (view k) (sym c.if-not-are_two.ensures) fine in
-    record { answer = r.0; board = repaired k c.put_pair.new.cells c.args.v.index c.args.u.index _ c.args.weight e c.put_pair.ensures.weights ∙ r.1 }
+    record { answer = r.0; board = repaired k c.set.new.self c.args.v.index c.args.u.index _ c.args.weight e c.set.ensures ∙ r.1 }
