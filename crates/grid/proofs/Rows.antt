@@ -1,5 +1,5 @@
 -- Writes to the rows of weights.
-use Rattle.std.proofs.Common.{◌≡◌, ℕ, ◌+◌, ◌*◌, ◌<◌, ◌≤◌, cond, ◌&&◌, eqb, ltb, ◌⊎◌, List, [], length, get_or, set, replicate, ℤ, pos, ap, ◌∙◌, sym, inl, inr, arith, length-set}
+use Rattle.std.proofs.Common.{◌≡◌, ℕ, ◌+◌, ◌<◌, ◌≤◌, cond, ◌&&◌, eqb, ltb, ◌⊎◌, List, [], length, get_or, set, replicate, ℤ, pos, ap, ◌∙◌, sym, inl, inr, arith, length-set}
 use mathlib.Core.HLevel.{is_prop→PathP}
 use mathlib.Core.Path.{fun_ext}
 use denote.Struct.Props.{props}
@@ -51,13 +51,13 @@ set_one rows v u z p q x y = elim (cases_eq x v) [
       let here = ap (λ (r : List ℤ). get_or r y (pos 0)) row in
       let old : weight_at rows x y ≡ get_or (get_or rows v []) y (pos 0) = ap (λ k. get_or (get_or rows k []) y (pos 0)) e in
       elim (cases_eq y u) [
-      | inl e' ↦
-          let a = ap (λ k. get_or (set (get_or rows v []) u z) k (pos 0)) e' ∙ get_or-set_same (get_or rows v []) u z (pos 0) q in
-          grind (arith, nat_tests)
-      | inr d ↦
-          let a = get_or-set_other (get_or rows v []) u y z (pos 0) d in
-          grind (arith, nat_tests)
-    ]
+        | inl e' ↦
+            let a = ap (λ k. get_or (set (get_or rows v []) u z) k (pos 0)) e' ∙ get_or-set_same (get_or rows v []) u z (pos 0) q in
+            grind (arith, nat_tests)
+        | inr d ↦
+            let a = get_or-set_other (get_or rows v []) u y z (pos 0) d in
+            grind (arith, nat_tests)
+      ]
   | inr d ↦
       let a = ap (λ (r : List ℤ). get_or r y (pos 0)) (get_or-set_other rows v x (set (get_or rows v []) u z) [] d) in
       grind (arith, nat_tests)
@@ -107,12 +107,12 @@ upto_all v row rows len long wide = fun_ext (λ x. fun_ext (λ y. at x y))
     at : (x y : ℕ) → upto 120 v (λ u. get_or row u (pos 0)) (weight_at rows) x y ≡ placed v (λ u. get_or row u (pos 0)) (weight_at rows) x y
     at x y = elim (cases_lt x 120) [
       | inl p ↦ elim (cases_lt y 120) [
-          | inl q ↦ grind (arith, nat_tests)
-          | inr q ↦
-              let a = past y q in
-              let b = beside x y q in
-              grind (arith, nat_tests)
-        ]
+        | inl q ↦ grind (arith, nat_tests)
+        | inr q ↦
+            let a = past y q in
+            let b = beside x y q in
+            grind (arith, nat_tests)
+      ]
       | inr p ↦
           let a = past x p in
           let b = below x p y in

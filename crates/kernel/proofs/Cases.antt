@@ -1,5 +1,5 @@
 -- What a change answers and leaves, in each case.
-use Rattle.std.proofs.Common.{◌≡◌, ℕ, Bool, true, false, ℤ, Some, None, Ok, Err, sym, refl, subst, arith}
+use Rattle.std.proofs.Common.{◌≡◌, ℕ, true, false, ℤ, Some, None, Ok, Err, sym, refl, subst, arith}
 use Rattle.std.proofs.lemmas.Int.{ints}
 use Rattle.std.proofs.lemmas.Bool.{both_ways}
 use Rattle.cuts.specs.Boards.{Board, Sound, connections}

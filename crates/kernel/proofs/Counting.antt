@@ -1,12 +1,11 @@
 -- Counting along a row, and nets that are spared.
-use Rattle.std.proofs.Common.{◌≡◌, ℕ, zero, suc, ◌+◌, ◌≤◌, not, ◌||◌, cond, eqb, ◌==◌, int_eq, List, [], ◌∷◌, length, get_or, take, ℤ, pos, sym, refl, ap, ◌∙◌, ap₂, add-one, arith}
+use Rattle.std.proofs.Common.{◌≡◌, ℕ, zero, suc, ◌≤◌, not, ◌||◌, cond, eqb, ◌==◌, int_eq, List, [], ◌∷◌, length, get_or, take, ℤ, pos, refl, ap, ◌∙◌, ap₂, add-one, arith}
 use Rattle.std.specs.List.{list_any, count_by}
 use Rattle.std.proofs.lemmas.Bool.Decides.{nat_tests}
 use Rattle.std.proofs.lemmas.Int.{ints}
 use Rattle.std.proofs.lemmas.List.Sums.{sum_by_more}
 use Rattle.cuts.specs.Boards.{connected}
 use Rattle.cuts.specs.Sums.{count}
-use Rattle.cuts.proofs.Sums.{count_more}
 use Rattle.kernel.specs.Views.{named}
 use Rattle.grid.specs.declared.nets.Net.{Net}
 

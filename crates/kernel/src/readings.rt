@@ -37,8 +37,8 @@ impl Kernel {
         ensures { indices result.items ≡ standing (view self.now) }
     {
         let mut nets = ArrayVec::new();
-        for index in 0..self.nets {
-            if self.standing[index] {
+        for (index, stands) in self.standing[..self.nets].iter().enumerate() {
+            if *stands {
                 nets.push(Net { index });
             }
         }

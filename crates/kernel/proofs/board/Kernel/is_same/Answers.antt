@@ -1,4 +1,3 @@
-use Rattle.std.proofs.Common.{refl}
 use Rattle.kernel.proofs.Memory.{faithful, alike}
 use Rattle.kernel.proofs.board.Kernel.is_same.Goals as goal
 

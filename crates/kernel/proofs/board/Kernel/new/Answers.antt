@@ -1,10 +1,9 @@
-use Rattle.std.proofs.Common.{false, replicate, sym, subst, arith}
+use Rattle.std.proofs.Common.{false, sym, subst, arith}
 use lib.ListN.{length-replicate}
 use Rattle.std.proofs.lemmas.Int.{ints}
-use Rattle.cuts.specs.Boards.{Sound, sizes}
+use Rattle.cuts.specs.Boards.{Sound}
 use Rattle.cuts.proofs.Building.{empty_sound}
 use Rattle.cuts.proofs.Pairs.{pairs_none}
-use Rattle.kernel.specs.Arrays.{board_in}
 use Rattle.kernel.proofs.Boards.{board_empty}
 use Rattle.kernel.proofs.board.Kernel.new.Goals as goal
 

@@ -7,7 +7,6 @@ use Rattle.cuts.proofs.Reducing.{removed_reduces}
 use Rattle.kernel.specs.Arrays.{board_in}
 use Rattle.kernel.specs.Views.{view}
 use Rattle.kernel.proofs.Boards.{restood}
-use Rattle.kernel.proofs.Cases.{remove_done}
 use Rattle.kernel.proofs.board.Kernel.remove.Goals as goal
 
 pub invariant_of-self : goal.invariant_of-self
