@@ -84,6 +84,10 @@ pub ∑_each : (n v : ℕ) (f : ℕ → ℤ) → v < n → ((i : ℕ) → i < n 
     let b = ∑_natural n (omit v f) (λ i q. grind (arith, nat_tests, ints, p)) in
     omega (arith, ints)
 
+pub count_none : (p : ℕ → Bool) → count 0 p ≡ 0
+unfolding count
+count_none p = refl
+
 pub count_more : (n : ℕ) (p : ℕ → Bool) → count (n + 1) p ≡ count n p + cond (p n) 1 0
 unfolding count
 count_more n p = rw add-one refl

@@ -25,6 +25,3 @@ merge_exact tie v u b after sound two e = subst (MergesExactly tie v u b) (sym e
 
 pub merge_refused : (tie : Tie) (v u : ℕ) (b : Board) → two b v u ≡ false → (None ≡ merge_answer tie v u b) × (b ≡ after_merging tie v u b) × MergesExactly tie v u b b
 merge_refused tie v u b e = (rw e refl, rw e refl, record { exact = λ h. absurd (both_ways (two b v u) e h); lighter = omega (arith, ints) })
-
-pub remove_done : (v : ℕ) (b : Board) → b.stands v ≡ true → connections b v ≡ 0 → (true ≡ removable v b) × (removed v b ≡ after_removing v b)
-remove_done v b p q = rw (p, q) (refl, refl)

@@ -1,4 +1,5 @@
 //! Small boards: their splits' values by hand, and how joining and opposing change them.
+use cuts::Tie;
 use grid::nets::NETS;
 use grid::{Mask, Net, Split};
 use kernel::{Kernel, SetRefusal};
@@ -87,6 +88,11 @@ pub const READINGS: [(u8, usize, i64, i64); 4] = [
 /// Every second net of 120 on B.
 pub const ALTERNATE: u128 = 0xAAAA_AAAA_AAAA_AAAA_AAAA_AAAA_AAAA_AA;
 
+/// The net of this number, unless no board has one.
+fn net(number: u8) -> Option<Net> {
+    Net::try_from(number).ok()
+}
+
 /// The board of these pairs, unless one of them cannot be set.
 pub(crate) fn built(nets: u8, pairs: &[(u8, u8, i32)]) -> Option<Kernel> {
     let mut kernel = Kernel::new();
@@ -94,9 +100,7 @@ pub(crate) fn built(nets: u8, pairs: &[(u8, u8, i32)]) -> Option<Kernel> {
         kernel.add()?;
     }
     for (v, u, weight) in pairs {
-        kernel
-            .set(Net::numbered(*v)?, Net::numbered(*u)?, *weight)
-            .ok()?;
+        kernel.set(net(*v)?, net(*u)?, *weight).ok()?;
     }
     Some(kernel)
 }
@@ -104,9 +108,8 @@ pub(crate) fn built(nets: u8, pairs: &[(u8, u8, i32)]) -> Option<Kernel> {
 /// The bits of a split that is written as a side for each net.
 pub(crate) fn masked(sides: &str) -> Mask {
     let mut bits: u128 = 0;
-    let letters = sides.as_bytes();
-    for i in 0..NETS {
-        if letters.get(i) == Some(&b'B') {
+    for (i, side) in sides.as_bytes().iter().take(NETS).enumerate() {
+        if *side == b'B' {
             bits |= 1 << i;
         }
     }
@@ -115,20 +118,17 @@ pub(crate) fn masked(sides: &str) -> Mask {
 
 /// The bytes of a split that is written as a side for each net.
 pub(crate) fn sheet(sides: &str) -> [u8; NETS] {
-    let mut bytes: [u8; NETS] = [0; NETS];
-    let letters = sides.as_bytes();
-    for i in 0..NETS {
-        if letters.get(i) == Some(&b'B') {
-            bytes[i] = 1;
-        }
+    let mut bytes = [0; NETS];
+    for (byte, side) in bytes.iter_mut().zip(sides.as_bytes()) {
+        *byte = u8::from(*side == b'B');
     }
     bytes
 }
 
 /// Whether two nets are on different sides.
 fn differ(split: Mask, v: u8, u: u8) -> Option<bool> {
-    let first = Net::numbered(v)?;
-    let second = Net::numbered(u)?;
+    let first = net(v)?;
+    let second = net(u)?;
     Some(split.on_b(first) != split.on_b(second))
 }
 
@@ -144,9 +144,9 @@ fn defined(pairs: &[(u8, u8, i32)], split: Mask) -> i64 {
 }
 
 /// The split with one net on the side of another, or on the other side.
-fn lifted(split: Mask, v: Net, u: Net, opposed: bool) -> Mask {
+fn lifted(split: Mask, v: Net, u: Net, tie: Tie) -> Mask {
     let bit = 1 << v.index;
-    if split.on_b(u) != opposed {
+    if split.on_b(u) != (tie == Tie::Opposed) {
         Mask {
             bits: split.bits | bit,
         }
@@ -158,19 +158,14 @@ fn lifted(split: Mask, v: Net, u: Net, opposed: bool) -> Mask {
 }
 
 /// Whether each split of five nets afterwards, lifted, is worth the shift more before.
-fn exact(pairs: &[(u8, u8, i32)], kernel: &Kernel, v: Net, u: Net, opposed: bool) -> bool {
+fn exact(pairs: &[(u8, u8, i32)], kernel: &Kernel, v: Net, u: Net, tie: Tie) -> bool {
     let mut after = *kernel;
-    let answer = if opposed {
-        after.oppose(v, u)
-    } else {
-        after.join(v, u)
-    };
-    let Some(shift) = answer else {
+    let Some(shift) = after.merge(v, u, tie) else {
         return false;
     };
     for bits in 0..32_u8 {
         let split = Mask { bits: bits as u128 };
-        if defined(pairs, lifted(split, v, u, opposed)) != after.value(&split).wrapping_add(shift) {
+        if defined(pairs, lifted(split, v, u, tie)) != after.value(&split).wrapping_add(shift) {
             return false;
         }
     }
@@ -181,12 +176,12 @@ fn exact(pairs: &[(u8, u8, i32)], kernel: &Kernel, v: Net, u: Net, opposed: bool
 pub(crate) fn all_exact(nets: u8, pairs: &[(u8, u8, i32)]) -> Option<bool> {
     let kernel = built(nets, pairs)?;
     for i in 0..nets {
-        let v = Net::numbered(i.wrapping_add(1))?;
+        let v = net(i.wrapping_add(1))?;
         for j in 0..nets {
-            let u = Net::numbered(j.wrapping_add(1))?;
+            let u = net(j.wrapping_add(1))?;
             let apart = i != j;
-            if exact(pairs, &kernel, v, u, false) != apart
-                || exact(pairs, &kernel, v, u, true) != apart
+            if exact(pairs, &kernel, v, u, Tie::Joined) != apart
+                || exact(pairs, &kernel, v, u, Tie::Opposed) != apart
             {
                 return Some(false);
             }
@@ -198,9 +193,9 @@ pub(crate) fn all_exact(nets: u8, pairs: &[(u8, u8, i32)]) -> Option<bool> {
 /// A ring of nets, each connected to the next by this weight.
 pub(crate) fn ring(nets: u8, weight: i32) -> Option<Kernel> {
     let mut kernel = built(nets, &[])?;
-    let mut last = Net::numbered(nets)?;
+    let mut last = net(nets)?;
     for i in 0..nets {
-        let next = Net::numbered(i.wrapping_add(1))?;
+        let next = net(i.wrapping_add(1))?;
         kernel.set(last, next, weight).ok()?;
         last = next;
     }
@@ -210,13 +205,11 @@ pub(crate) fn ring(nets: u8, weight: i32) -> Option<Kernel> {
 /// Whether just these nets stand.
 pub(crate) fn stand(kernel: &Kernel, numbers: &[u8]) -> bool {
     let standing = kernel.standing();
-    let nets = standing.nets();
-    for (net, number) in nets.iter().zip(numbers) {
-        if net.number() != *number {
-            return false;
-        }
-    }
-    nets.len() == numbers.len()
+    standing.len() == numbers.len()
+        && standing
+            .iter()
+            .zip(numbers)
+            .all(|(net, number)| u8::from(*net) == *number)
 }
 
 /// Sets a weight, unless a number is none of a net.
@@ -226,15 +219,15 @@ pub(crate) fn set(
     u: u8,
     weight: i32,
 ) -> Option<Result<(), SetRefusal>> {
-    let first = Net::numbered(v)?;
-    let second = Net::numbered(u)?;
+    let first = net(v)?;
+    let second = net(u)?;
     Some(kernel.set(first, second, weight))
 }
 
 /// A net's connections, its sum of sizes, and that without nets 1 and 3.
 pub(crate) fn read_off(kernel: &Kernel, number: u8) -> Option<(usize, i64, i64)> {
-    let v = Net::numbered(number)?;
-    let spared = [Net::numbered(1)?, Net::numbered(3)?];
+    let v = net(number)?;
+    let spared = [net(1)?, net(3)?];
     Some((
         kernel.connections(v),
         kernel.sizes_at(v, &[]),
@@ -245,11 +238,11 @@ pub(crate) fn read_off(kernel: &Kernel, number: u8) -> Option<(usize, i64, i64)>
 /// Four nets, of which 1 and 2 are connected: what removing 1, 4 and 4 again answers, then joining 4 to 1, and whether the others stand.
 pub(crate) fn without_fourth() -> Option<(bool, bool, bool, Option<i64>, bool)> {
     let mut kernel = built(4, &[(1, 2, 3)])?;
-    let first = Net::numbered(1)?;
-    let fourth = Net::numbered(4)?;
+    let first = net(1)?;
+    let fourth = net(4)?;
     let connected = kernel.remove(first);
     let lone = kernel.remove(fourth);
     let gone = kernel.remove(fourth);
-    let joined = kernel.join(fourth, first);
+    let joined = kernel.merge(fourth, first, Tie::Joined);
     Some((connected, lone, gone, joined, stand(&kernel, &[1, 2, 3])))
 }
