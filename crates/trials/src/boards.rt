@@ -137,7 +137,7 @@ fn defined(pairs: &[(u8, u8, i32)], split: Mask) -> i64 {
     let mut total: i64 = 0;
     for (v, u, weight) in pairs {
         if differ(split, *v, *u) == Some(true) {
-            total = total.wrapping_add(*weight as i64);
+            total = total.wrapping_add(i64::from(*weight));
         }
     }
     total
@@ -164,7 +164,9 @@ fn exact(pairs: &[(u8, u8, i32)], kernel: &Kernel, v: Net, u: Net, tie: Tie) -> 
         return false;
     };
     for bits in 0..32_u8 {
-        let split = Mask { bits: bits as u128 };
+        let split = Mask {
+            bits: u128::from(bits),
+        };
         if defined(pairs, lifted(split, v, u, tie)) != after.value(&split).wrapping_add(shift) {
             return false;
         }
@@ -175,13 +177,12 @@ fn exact(pairs: &[(u8, u8, i32)], kernel: &Kernel, v: Net, u: Net, tie: Tie) -> 
 /// Whether that holds for every two nets, joined and opposed, and no net merges with itself.
 pub(crate) fn all_exact(nets: u8, pairs: &[(u8, u8, i32)]) -> Option<bool> {
     let kernel = built(nets, pairs)?;
-    for i in 0..nets {
-        let v = net(i.wrapping_add(1))?;
-        for j in 0..nets {
-            let u = net(j.wrapping_add(1))?;
-            let apart = i != j;
-            if exact(pairs, &kernel, v, u, Tie::Joined) != apart
-                || exact(pairs, &kernel, v, u, Tie::Opposed) != apart
+    let standing = kernel.standing();
+    for v in standing.iter() {
+        for u in standing.iter() {
+            let apart = v != u;
+            if exact(pairs, &kernel, *v, *u, Tie::Joined) != apart
+                || exact(pairs, &kernel, *v, *u, Tie::Opposed) != apart
             {
                 return Some(false);
             }
@@ -194,10 +195,9 @@ pub(crate) fn all_exact(nets: u8, pairs: &[(u8, u8, i32)]) -> Option<bool> {
 pub(crate) fn ring(nets: u8, weight: i32) -> Option<Kernel> {
     let mut kernel = built(nets, &[])?;
     let mut last = net(nets)?;
-    for i in 0..nets {
-        let next = net(i.wrapping_add(1))?;
-        kernel.set(last, next, weight).ok()?;
-        last = next;
+    for next in kernel.standing().iter() {
+        kernel.set(last, *next, weight).ok()?;
+        last = *next;
     }
     Some(kernel)
 }
