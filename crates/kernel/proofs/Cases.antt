@@ -2,13 +2,13 @@
 use Rattle.std.proofs.Common.{◌≡◌, ℕ, true, false, ℤ, Some, None, Ok, Err, sym, refl, subst, arith}
 use Rattle.std.proofs.lemmas.Int.{ints}
 use Rattle.std.proofs.lemmas.Bool.{both_ways}
-use Rattle.cuts.specs.Boards.{Board, Sound, connections}
+use Rattle.cuts.specs.Boards.{Board, Sound}
 use Rattle.cuts.specs.Building.{weighed}
 use Rattle.cuts.specs.declared.Tie.{Tie}
-use Rattle.cuts.specs.Merging.{two, merged, removed, shift}
+use Rattle.cuts.specs.Merging.{two, merged, shift}
 use Rattle.cuts.proofs.Merging.{merged_exact}
 use Rattle.cuts.proofs.Sizes.{merged_lighter}
-use Rattle.kernel.specs.Changes.{light, set_answer, after_setting, merge_answer, after_merging, MergesExactly, removable, after_removing}
+use Rattle.kernel.specs.Changes.{light, set_answer, after_setting, merge_answer, after_merging, MergesExactly}
 use Rattle.kernel.specs.declared.changes.SetRefusal.TheVariants.{TooHeavy}
 
 pub set_heavy : (v u : ℕ) (z : ℤ) (b : Board) → two b v u ≡ true → light (weighed v u z b) ≡ false → (Err TooHeavy ≡ set_answer v u z b) × (b ≡ after_setting v u z b)

@@ -22,14 +22,6 @@ pub enum SetRefusal {
     TooHeavy,
 }
 
-/// The sum of sizes once the weight of a pair is replaced.
-fn resized(kernel: &Kernel, v: Net, u: Net, weight: i32) -> i64
-    requires { two (view kernel.now) v.index u.index ≡ true }
-    ensures { result ≡ sizes (weighed v.index u.index weight (view kernel.now)) }
-{
-    kernel.sizes - kernel.weights.size(v, u) + weight_size(weight)
-}
-
 impl Kernel {
     /// A board without nets.
     pub fn new() -> Kernel
@@ -57,6 +49,14 @@ impl Kernel {
         Some(Net { index })
     }
 
+    /// The sum of sizes once the weight of a pair is replaced.
+    fn resized(&self, v: Net, u: Net, weight: i32) -> i64
+        requires { two (view self.now) v.index u.index ≡ true }
+        ensures { result ≡ sizes (weighed v.index u.index weight (view self.now)) }
+    {
+        self.sizes - self.weights.size(v, u) + weight_size(weight)
+    }
+
     /// Sets the weight of a pair.
     pub fn set(&mut self, v: Net, u: Net, weight: i32) -> Result<(), SetRefusal>
         ensures answer { result ≡ set_answer v.index u.index weight (view self.old) }
@@ -65,7 +65,7 @@ impl Kernel {
         if !self.are_two(v, u) {
             return Err(SetRefusal::NotTwo);
         }
-        let sizes = resized(self, v, u, weight);
+        let sizes = self.resized(v, u, weight);
         if sizes > LIMIT {
             return Err(SetRefusal::TooHeavy);
         }

@@ -107,7 +107,7 @@ fn at_desk(
 ) -> Result<(), Fail> {
     let mut desk = Desk { joins: 0 };
     match read(text.as_bytes(), &mut desk) {
-        Ok(n) => assert_eq!(rt; n, joins as usize, "{}", text),
+        Ok(n) => assert_eq!(rt; n, usize::from(joins), "{}", text),
         Err(fault) => {
             assert_eq!(rt; fault.to_string(heap)?.as_str(), line, "{}", text);
             assert_eq!(rt;

@@ -4,17 +4,17 @@ use Rattle.cuts.specs.Boards.{size}
 use Rattle.cuts.proofs.Sizes.{sizes_natural, weighed_sizes}
 use Rattle.kernel.specs.Views.{view}
 use Rattle.kernel.proofs.Totals.{replaced}
-use Rattle.kernel.proofs.changes.resized.Goals as goal
+use Rattle.kernel.proofs.board.Kernel.resized.Goals as goal
 
 pub overflow_sub-result : goal.overflow_sub-result
-overflow_sub-result c = let k = c.args.kernel.now in omega (arith, ints, k.light, k.counted, sizes_natural (view k), c.size.ensures.size, c.size.ensures.small)
+overflow_sub-result c = let k = c.args.self.now in omega (arith, ints, k.light, k.counted, sizes_natural (view k), c.size.ensures.size, c.size.ensures.small)
 
 pub overflow_add-result : goal.overflow_add-result
-overflow_add-result c = let k = c.args.kernel.now in omega (arith, ints, k.light, k.counted, sizes_natural (view k), c.size.ensures.size, c.size.ensures.small, c.weight_size.ensures.size, c.weight_size.ensures.small)
+overflow_add-result c = let k = c.args.self.now in omega (arith, ints, k.light, k.counted, sizes_natural (view k), c.size.ensures.size, c.size.ensures.small, c.weight_size.ensures.size, c.weight_size.ensures.small)
 
 pub returns : goal.returns
 returns c =
-    let k = c.args.kernel.now in
+    let k = c.args.self.now in
     let total = sizes_natural (view k) in
     let counted = k.counted in
     let old = c.size.ensures.size in
