@@ -11,7 +11,7 @@ use grid::{Net, Split};
 impl Kernel {
     /// The sum of the weights of a net with those before it that are on the other side.
     fn value_at<S: Split>(&self, split: &S, v: Net) -> i64
-        ensures value { result ≡ ∑ v.index (λ u. cut (S.Split.sides split.now u) (S.Split.sides split.now v.index) ((view self.now).weight u v.index)) }
+        ensures value { result ≡ ∑ v.index (λ u. cut (S.sides split.now u) (S.sides split.now v.index) ((view self.now).weight u v.index)) }
         ensures small { size result ≤ℤ pos 257698037760 }
     {
         let side = split.on_b(v);
@@ -26,7 +26,7 @@ impl Kernel {
 
     /// The sum of the weights of the pairs on different sides.
     pub fn value<S: Split>(&self, split: &S) -> i64
-        ensures value { result ≡ value (view self.now) (S.Split.sides split.now) }
+        ensures value { result ≡ value (view self.now) (S.sides split.now) }
         ensures bounded { size result ≤ℤ sizes (view self.now) }
     {
         sum_of(self.nets, |v| self.value_at(split, v))
