@@ -17,16 +17,16 @@ small n l = lt_trans l (lit< tt)
 
 module _ (n : ℕ) (w : List ℕ) (l : n < 10 ^ 19) (e : decimal n ≡ w) where
   pub not_empty : length w ≡ 0 → ⊥
-  not_empty h = omega (arith, decimal_nonempty n (small n l), ap length e)
+  not_empty h = grind (arith, e, decimal_nonempty n (small n l))
 
   pub not_long : 19 < length w → ⊥
-  not_long h = omega (arith, length-decimal-le 19 n (lit< tt) l (small n l), ap length e)
+  not_long h = grind (arith, e, length-decimal-le 19 n (lit< tt) l (small n l))
 
   pub no_zero : get_or w 0 0 ≡ 48 → 1 < length w → ⊥
   no_zero h k = grind (arith, e, small n l, first_decimal n, decimal_digit n)
 
   pub all_digits : (i : ℕ) → i < length w → IsInRange 48 57 (get_or w i 0)
-  all_digits i h = subst (λ s. IsInRange 48 57 (get_or s i 0)) e (digit_at (decimal n) i (decimal_is_IsNumeral n (small n l)).0.1 (omega (arith, ap length e)))
+  all_digits i h = rw (← e) (digit_at (decimal n) i (decimal_is_IsNumeral n (small n l)).0.1 (omega (arith, ap length e)))
 
 -- what is read so far leaves room for a digit
 pub below : (w : List ℕ) (i : ℕ) → AllDigits 10 (take i w) → i < length w → length w ≤ 19 → digits_value 10 (take i w) < 10 ^ 18
@@ -35,14 +35,12 @@ below w i d h k =
     lt_of_lt_of_le (digits_value-lt 10 (take i w) d) (tens _ 18 t)
 
 -- digits without a leading 0 write their value
-pub whole : (w : List ℕ) (n i : ℕ) → AllDigits 10 (take i w) → n ≡ digits_value 10 (take i w) → length w ≤ i → length w ≤ 19 → 0 < length w → (get_or w 0 0 ≡ 48 → length w ≤ 1) → (n < 10 ^ 19) × (decimal n ≡ w)
-whole w n i d v end h some lead =
-    let all : take i w ≡ w = take_all i w end in
-    let digits : AllDigits 10 w = subst (AllDigits 10) all d in
-    let value : n ≡ digits_value 10 w = v ∙ ap (digits_value 10) all in
-    let l : digits_value 10 w < 10 ^ 19 = lt_of_lt_of_le (digits_value-lt 10 w digits) (tens _ 19 h) in
-    let one : get_or w 0 0 ≡ 48 → length w ≡ 1 = λ z. omega (arith, lead z) in
-    (subst (λ m. m < 10 ^ 19) (sym value) l, ap decimal value ∙ decimal-digits_value (numerals_by_value (AllDigits 10) tells_digits) w digits some one (small (digits_value 10 w) l))
+pub value_small : (w : List ℕ) → AllDigits 10 w → length w ≤ 19 → digits_value 10 w < 10 ^ 19
+value_small w digits h = lt_of_lt_of_le (digits_value-lt 10 w digits) (tens _ 19 h)
+
+pub value_written : (w : List ℕ) → AllDigits 10 w → length w ≤ 19 → 0 < length w → (get_or w 0 0 ≡ 48 → length w ≤ 1) → decimal (digits_value 10 w) ≡ w
+value_written w digits h some lead =
+    decimal-digits_value (numerals_by_value (AllDigits 10) tells_digits) w digits some (λ z. omega (arith, lead z)) (small (digits_value 10 w) (value_small w digits h))
 
 -- what reading a word, digit by digit, rests on
-pub ruleset reading = (not_empty, not_long, no_zero, all_digits, below, digit_value_digit, digits_value_more, digits_more)
+pub ruleset reading = (not_empty, not_long, no_zero, all_digits, below, digit_value_digit, digits_value_more, digits_more, value_small, value_written, take_all)

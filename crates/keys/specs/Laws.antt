@@ -1,5 +1,5 @@
 -- What every kind of key keeps to, of numbers and of names: each key is spelled by a word, and no two by the same. Assumes nothing.
-use Rattle.std.proofs.Common.{◌≡◌, ℕ, ◌^◌, ◌<◌, ◌≤◌, true, false, ◌&&◌, leb, List, length, get_or, decimal, refl, ap, ◌∙◌, arith}
+use Rattle.std.proofs.Common.{rules, ◌≡◌, ℕ, ◌^◌, ◌<◌, ◌≤◌, true, false, List, length, get_or, decimal, refl, ap, ◌∙◌, arith}
 use mathlib.Core.Bool.{Bool-set}
 use mathlib.Core.HLevel.{is_prop→PathP}
 use native.Mathlib.Bridge.{le_prop}
@@ -8,7 +8,7 @@ use Rattle.std.specs.List.{list_all}
 use Rattle.std.proofs.lemmas.Fmt.{decimal_is_IsNumeral, decimal_nonempty, decimal_injective}
 use Rattle.std.proofs.lemmas.List.Folds.{list_all_at}
 use Rattle.std.proofs.lemmas.Str.Parse.{digit_at}
-use Rattle.std.proofs.lemmas.Bool.{and_parts, leb-true, both_ways}
+use Rattle.std.proofs.lemmas.Bool.{both_ways}
 use Rattle.keys.specs.Forms.{name_byte, is_name}
 use Rattle.keys.specs.Words.{Lacks, Word}
 use Rattle.keys.specs.declared.name.NameKey.{NameKey}
@@ -44,13 +44,12 @@ name_lacks c none s each i l e = both_ways (list_all name_byte s) (list_all_at n
 
 pub name_word : (k : NameKey) → Word k.text
 name_word k =
-    let s = k.text in
-    let p = and_parts (leb 1 (length s)) (leb (length s) 12 && list_all name_byte s) k.named in
-    let q = and_parts (leb (length s) 12) (list_all name_byte s) p.1 in
+    let named = k.named in
+    let each : list_all name_byte k.text ≡ true = search (rules, named) in
     record {
-      some = leb-true 1 (length s) p.0;
-      spaceless = name_lacks 32 refl s q.1;
-      endless = name_lacks 10 refl s q.1;
+      some = grind (arith, named);
+      spaceless = name_lacks 32 refl k.text each;
+      endless = name_lacks 10 refl k.text each;
     }
 
 pub same_name : (a b : NameKey) → a.text ≡ b.text → a ≡ b
