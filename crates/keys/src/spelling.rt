@@ -1,6 +1,5 @@
 //! The word that spells a key: at most 12 bytes, held in place.
-ghost use Rattle.std.specs.Prelude.{◌≡◌, ◌≤◌, length};
-ghost use Rattle.std.specs.Result.{OkIff};
+ghost use Rattle.std.specs.Prelude.{◌≡◌, ◌≤◌, length, OkIff};
 
 use crate::kinds::KeyRefusal;
 use std::marker::Model;
