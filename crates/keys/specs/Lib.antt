@@ -1,5 +1,4 @@
 pub mod Words
-pub mod Spellings
 pub mod Keys
 pub mod Forms
 pub mod Laws

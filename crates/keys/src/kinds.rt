@@ -1,7 +1,6 @@
 //! What a kind of key is: when two keys are the same net, where the search for a key begins, and how a key is written.
 ghost use Rattle.std.specs.Prelude.{◌≡◌, ℕ, Bool, true, List, Ok};
 ghost use Rattle.keys.specs.Keys.{key_number, ReadAs};
-ghost use Rattle.keys.specs.Spellings.{bytes_of};
 ghost use Rattle.keys.specs.Words.{Word};
 
 use crate::spelling::Spelling;
@@ -42,7 +41,7 @@ pub trait Spelled: Copy {
 
     /// The word that spells the key.
     fn spelling(&self) -> Spelling
-        ensures { bytes_of result ≡ spelled self.now };
+        ensures { result ≡ spelled self.now };
 
     ghost word: { (k : Self) → Word (spelled k) };
 

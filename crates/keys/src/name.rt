@@ -1,10 +1,10 @@
 //! Keys that are names of 1 to 12 letters, digits or underscores, kept as first spelled.
 ghost use Rattle.std.specs.Prelude.{◌≡◌, true, map, is_ok};
 ghost use Rattle.std.specs.Char.{to_ascii_lowercase};
+ghost use Rattle.std.specs.List.{list_all};
 ghost use Rattle.std.specs.Str.{bytes_eq};
 ghost use Rattle.keys.specs.Keys.{ReadAs};
-ghost use Rattle.keys.specs.Forms.{is_name, home_from, name_byte, all_name_bytes};
-ghost use Rattle.keys.specs.Spellings.{bytes_of};
+ghost use Rattle.keys.specs.Forms.{is_name, name_byte, name_home};
 ghost use Rattle.std.proofs.Common.{rules};
 
 use crate::kinds::{Key, KeyRefusal, Spelled};
@@ -14,7 +14,7 @@ use crate::spelling::Spelling;
 #[derive(Clone, Copy)]
 pub struct NameKey {
     text: Spelling,
-    ghost named: { is_name (bytes_of text) ≡ true },
+    ghost named: { is_name text ≡ true },
 }
 
 fn is_name_byte(b: u8) -> bool
@@ -24,32 +24,25 @@ fn is_name_byte(b: u8) -> bool
 }
 
 fn all_name(word: &[u8]) -> bool
-    ensures { result ≡ all_name_bytes word.now }
+    ensures { result ≡ list_all name_byte word.now }
 {
-    for b in word {
-        if !is_name_byte(*b) {
-            return false;
-        }
-    }
-    true
+    word.iter().all(|&b| is_name_byte(b))
 }
 
 fn home_of(word: &[u8]) -> u64
-    ensures { result ≡ home_from 0 (map to_ascii_lowercase word.now) }
+    ensures { result ≡ name_home word.now }
 {
-    let mut home: u64 = 0;
-    for b in word {
-        home = home
-            .wrapping_mul(31)
-            .wrapping_add(b.to_ascii_lowercase() as u64);
-    }
-    home
+    word.iter()
+        .map(u8::to_ascii_lowercase)
+        .fold(0_u64, |home, b| {
+            home.wrapping_mul(31).wrapping_add(b.into())
+        })
 }
 
 impl Key for NameKey {
-    ghost same = { λ a b. bytes_eq (map to_ascii_lowercase (bytes_of a.text)) (map to_ascii_lowercase (bytes_of b.text)) };
+    ghost same = { λ a b. bytes_eq (map to_ascii_lowercase a.text) (map to_ascii_lowercase b.text) };
 
-    ghost home = { λ a. home_from 0 (map to_ascii_lowercase (bytes_of a.text)) };
+    ghost home = { λ a. name_home a.text };
 
     ghost reflexive = { Prim.search rules };
 
@@ -71,23 +64,21 @@ impl Key for NameKey {
 impl Spelled for NameKey {
     ghost use Rattle.keys.specs.Laws.{name_word, same_name};
 
-    ghost spelled = { λ k. bytes_of k.text };
+    ghost spelled = { λ k. k.text };
 
     ghost word = { name_word };
 
     ghost apart = { same_name };
 
     fn read(word: &[u8]) -> Result<NameKey, KeyRefusal>
-        ensures key { ReadAs (λ k. bytes_of k.text) word.now result }
+        ensures key { ReadAs (λ k. k.text) word.now result }
         ensures form { is_ok result ≡ is_name word.now }
     {
-        if word.len() == 0 || !all_name(word) {
+        if word.is_empty() || !all_name(word) {
             return Err(KeyRefusal::Malformed);
         }
-        match Spelling::new(word) {
-            Some(text) => Ok(NameKey { text }),
-            None => Err(KeyRefusal::Malformed),
-        }
+        let text = Spelling::try_from(word)?;
+        Ok(NameKey { text })
     }
 
     fn spelling(&self) -> Spelling {

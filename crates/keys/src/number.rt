@@ -13,19 +13,21 @@ use crate::spelling::Spelling;
 const LAST: u64 = 999_999_999;
 
 /// A number that stands for a net.
-#[derive(Clone, Copy)]
+#[derive(Clone, Copy, PartialEq, Eq, Debug)]
 pub struct NumberKey {
     value: u32,
     ghost low: { 1 ≤ value },
     ghost high: { value ≤ 999999999 },
 }
 
-impl NumberKey {
+impl TryFrom<u64> for NumberKey {
+    type Error = KeyRefusal;
+
+    ghost try_from_gives = { λ n r. MatchResult r (λ k. k.value ≡ n) (λ e. (e ≡ Malformed) × (1 ≤ n → n ≤ 999999999 → ⊥)) };
+
     /// The key of a number from 1 to 999,999,999.
-    pub fn new(n: u64) -> Result<NumberKey, KeyRefusal>
-        ensures { MatchResult result (λ k. k.value ≡ n) (λ e. (e ≡ Malformed) × (1 ≤ n → n ≤ 999999999 → ⊥)) }
-    {
-        if n < 1 || n > LAST {
+    fn try_from(n: u64) -> Result<NumberKey, KeyRefusal> {
+        if !(1..=LAST).contains(&n) {
             return Err(KeyRefusal::Malformed);
         }
         Ok(NumberKey { value: n as u32 })
@@ -46,7 +48,7 @@ impl Key for NumberKey {
     ghost homes = { Prim.search rules };
 
     fn is_same(&self, other: &NumberKey) -> bool {
-        self.value == other.value
+        self == other
     }
 
     fn home(&self) -> u64 {
@@ -63,17 +65,16 @@ impl Spelled for NumberKey {
 
     ghost apart = { same_number };
 
+    #[tactic(auto, using(crate::proofs::Spelt::number_told, crate::proofs::Spelt::number_read))]
     fn read(word: &[u8]) -> Result<NumberKey, KeyRefusal>
         ensures key { ReadAs (λ k. decimal k.value) word.now result }
         ensures form { is_ok result ≡ is_number word.now }
     {
-        match natural(word) {
-            Some(n) => NumberKey::new(n),
-            None => Err(KeyRefusal::Malformed),
-        }
+        let n = natural(word).ok_or(KeyRefusal::Malformed)?;
+        NumberKey::try_from(n)
     }
 
     fn spelling(&self) -> Spelling {
-        written(self.value as u64)
+        written(self.value.into())
     }
 }

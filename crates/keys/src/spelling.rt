@@ -1,47 +1,74 @@
 //! The word that spells a key: at most 12 bytes, held in place.
-ghost use Rattle.std.specs.Prelude.{◌≡◌, ◌-◌, ◌<◌, ◌≤◌, length, take, drop, replicate, MatchOption};
+ghost use Rattle.std.specs.Prelude.{◌≡◌, ◌≤◌, length, OkIff};
+
+use crate::kinds::KeyRefusal;
+use std::marker::Model;
 
 /// The longest word that spells a key.
 pub const ROOM: usize = 12;
 
 /// At most 12 bytes; what lies past them is 0, so that equal words are equal values.
-#[derive(Clone, Copy)]
+#[derive(Clone, Copy, PartialEq, Eq, Debug)]
 pub struct Spelling {
-    bytes: [u8; 12],
+    bytes: [u8; ROOM],
     len: u8,
-    ghost room: { length bytes ≡ 12 },
-    ghost fits: { len ≤ 12 },
-    ghost padded: { drop len bytes ≡ replicate (12 - len) 0 },
+}
+
+impl Model for Spelling {
+    ghost use Rattle.std.specs.Prelude.{◌≡◌, ℕ, ◌-◌, ◌≤◌, List, ◌++◌, length, take, drop, replicate};
+    ghost use Rattle.std.proofs.Common.{arith, take-append-drop, length-take-le};
+
+    ghost Value = { List ℕ };
+
+    ghost view = { λ s. take s.len s.bytes };
+
+    ghost invariant = { λ s. record {
+      fits : s.len ≤ 12;
+      room : length s.bytes ≡ 12;
+      padded : drop s.len s.bytes ≡ replicate (12 - s.len) 0;
+    } };
+
+    ghost inverse = { λ word. record { bytes = word ++ replicate (12 - length word) 0; len = length word } };
+
+    ghost inverse_ok = { λ s h.
+        let len : length (take s.len s.bytes) ≡ s.len = length-take-le s.len s.bytes (omega (arith, h.fits, h.room)) in
+        let bytes : take s.len s.bytes ++ replicate (12 - length (take s.len s.bytes)) 0 ≡ s.bytes = rw (len, ← h.padded) (take-append-drop s.len s.bytes) in
+        λ i. record { bytes = bytes i; len = len i } };
+}
+
+impl TryFrom<&[u8]> for Spelling {
+    type Error = KeyRefusal;
+
+    ghost try_from_gives = { λ word r. OkIff r (length word.now ≤ 12) word.now };
+
+    /// The word, unless it is longer than 12 bytes.
+    fn try_from(word: &[u8]) -> Result<Spelling, KeyRefusal> {
+        if word.len() > ROOM {
+            return Err(KeyRefusal::Malformed);
+        }
+        Ok(Spelling::copied(word))
+    }
 }
 
 impl Spelling {
-    /// The word, unless it is longer than 12 bytes.
-    pub fn new(word: &[u8]) -> Option<Spelling>
-        ensures { MatchOption result (12 < length word.now) (λ s. take s.len s.bytes ≡ word.now) }
-    {
-        if word.len() > ROOM {
-            return None;
-        }
-        Some(Spelling::copied(word))
-    }
-
     /// The word, which has at most 12 bytes.
     pub(crate) fn copied(word: &[u8]) -> Spelling
         requires { length word.now ≤ 12 }
-        ensures { take result.len result.bytes ≡ word.now }
+        ensures { result ≡ word.now }
     {
-        let mut bytes = [0; 12];
-        for i in 0..word.len() {
-            bytes[i] = word[i];
+        let mut bytes = [0; ROOM];
+        bytes[..word.len()].copy_from_slice(word);
+        Spelling {
+            bytes,
+            len: word.len() as u8,
         }
-        let len = word.len() as u8;
-        Spelling { bytes, len }
     }
 
     /// The bytes of the word.
     pub fn bytes(&self) -> &[u8]
-        ensures { result.now ≡ take self.now.len self.now.bytes }
+        ensures word { result.now ≡ self.now }
+        ensures short { length result.now ≤ 12 }
     {
-        &self.bytes[0..self.len as usize]
+        &self.bytes[..usize::from(self.len)]
     }
 }

@@ -1,6 +1,5 @@
 -- What follows from the summary of a text, for each kind of key. Assumes nothing.
 use Rattle.std.proofs.Common.{◌≡◌, ℕ, ◌≤◌, List, length, Ok, Err, codes, decimal, Result, refl, ap, arith}
-use Rattle.keys.specs.Spellings.{bytes_of}
 use Rattle.keys.specs.Words.{Lacks}
 use Rattle.keys.specs.declared.name.NameKey.{NameKey}
 use Rattle.keys.specs.declared.number.NumberKey.{NumberKey}
@@ -15,7 +14,7 @@ use Rattle.survey.specs.declared.summary.Summary.{Summary}
 use Rattle.survey.proofs.Summing.{sums_up, summed_only, summed_named, begins_written, one_header}
 
 abbrev named : NameKey → List ℕ
-named k = bytes_of k.text
+named k = k.text
 
 abbrev numbered : NumberKey → List ℕ
 numbered k = decimal k.value

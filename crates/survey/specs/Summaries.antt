@@ -1,6 +1,5 @@
 -- What a board text holds. Assumes nothing.
 use Rattle.std.specs.Prelude.{◌≡◌, ℕ, List, [], ◌∷◌, ◌++◌, length, None, Ok, Err, codes, decimal, Result}
-use Rattle.keys.specs.Spellings.{bytes_of}
 use Rattle.keys.specs.declared.name.NameKey.{NameKey}
 use Rattle.keys.specs.declared.number.NumberKey.{NumberKey}
 use Rattle.faults.specs.declared.places.Fault.{Fault}
@@ -39,7 +38,7 @@ pub record Summed {K : Type 0} (spelled : K → List ℕ) (header : List ℕ) (k
 -- the first line says which keys a board has; a text with neither header is refused at that line
 pub data Summarized (text : List ℕ) (r : Result Summary Fault) : Type 0 where
   numbers : Begins (codes "board numbers") text → Summed {K = NumberKey} (λ k. decimal k.value) (codes "board numbers") Numbers text r → Summarized text r
-  names : (Begins (codes "board numbers") text → ⊥) → Summed {K = NameKey} (λ k. bytes_of k.text) (codes "board names") Names text r → Summarized text r
+  names : (Begins (codes "board numbers") text → ⊥) → Summed {K = NameKey} (λ k. k.text) (codes "board names") Names text r → Summarized text r
 
 -- a text has one summary or one fault
 abbrev pub OneSummary : List ℕ → Type 0
@@ -49,7 +48,7 @@ OneSummary text = (r r' : Result Summary Fault) → Summarized text r → Summar
 abbrev pub NamedAs : List ℕ → Result Summary Fault → Type 0
 NamedAs text (Ok s) = Unit {0}
 NamedAs text (Err f) =
-    (steps : List ℕ) → (Begins (codes "board numbers") text → Named {K = NumberKey} (λ k. decimal k.value) text steps f) × ((Begins (codes "board numbers") text → ⊥) → Named {K = NameKey} (λ k. bytes_of k.text) text steps f)
+    (steps : List ℕ) → (Begins (codes "board numbers") text → Named {K = NumberKey} (λ k. decimal k.value) text steps f) × ((Begins (codes "board numbers") text → ⊥) → Named {K = NameKey} (λ k. k.text) text steps f)
 
 -- the three lines that show a summary
 abbrev pub summary_text : Summary → List ℕ

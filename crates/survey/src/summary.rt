@@ -1,6 +1,5 @@
 //! What a board text holds, in three lines.
 ghost use Rattle.std.specs.Prelude.{◌≡◌, ◌≤◌, List, length, Some, Ok, codes, decimal};
-ghost use Rattle.keys.specs.Spellings.{bytes_of};
 ghost use Rattle.keys.specs.declared.name.NameKey.{NameKey};
 ghost use Rattle.keys.specs.declared.number.NumberKey.{NumberKey};
 ghost use Rattle.text.specs.Boards.{Written};
@@ -49,7 +48,7 @@ fn summed<K: Spelled + Headed>(text: &[u8], kind: Kind) -> Result<Summary, Fault
 pub fn summarize(text: &[u8]) -> Result<Summary, Fault>
     ensures told { Summarized text.now result }
     ensures one { OneSummary text.now }
-    ensures names { (js : List (Join NameKey)) → length text.now ≤ 60000 → Written (λ k. bytes_of k.text) (codes "board names") js text.now → result ≡ Ok (summary Names js) }
+    ensures names { (js : List (Join NameKey)) → length text.now ≤ 60000 → Written (λ k. k.text) (codes "board names") js text.now → result ≡ Ok (summary Names js) }
     ensures numbers { (js : List (Join NumberKey)) → length text.now ≤ 60000 → Written (λ k. decimal k.value) (codes "board numbers") js text.now → result ≡ Ok (summary Numbers js) }
     ensures named { NamedAs text.now result }
 {

@@ -2,7 +2,6 @@
 use Rattle.std.specs.Prelude.{◌≡◌, ℕ, cond, List, map, length, Some, None, Option, nat_lt}
 use Rattle.std.specs.Char.{to_ascii_lowercase}
 use Rattle.std.specs.Str.{bytes_eq}
-use Rattle.keys.specs.Spellings.{bytes_of}
 use Rattle.keys.specs.declared.name.NameKey.{NameKey}
 use Rattle.text.specs.declared.takers.Join.{Join}
 use Rattle.trials.specs.declared.desk.Reason.{Reason}
@@ -17,4 +16,4 @@ Holds joins js = joins ≡ length js
 
 abbrev pub ruled : List (Join NameKey) → Join NameKey → Option Reason
 ruled js j =
-    cond (bytes_eq (map to_ascii_lowercase (bytes_of j.first.text)) (map to_ascii_lowercase (bytes_of j.second.text))) (Some SameNet) (cond (nat_lt (length js) 2) None (Some Full))
+    cond (bytes_eq (map to_ascii_lowercase j.first.text) (map to_ascii_lowercase j.second.text)) (Some SameNet) (cond (nat_lt (length js) 2) None (Some Full))

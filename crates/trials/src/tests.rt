@@ -215,14 +215,14 @@ fn spellings(rt: HostRuntime) -> Result<(), Fail> {
 #[test]
 fn numbers(rt: HostRuntime) -> Result<(), Fail> {
     for n in [0, 1_000_000_000, 18_446_744_073_709_551_615] {
-        assert!(rt; NumberKey::new(n).is_err());
+        assert!(rt; NumberKey::try_from(n).is_err());
     }
     for n in [1, 7, 999_999_999] {
-        let key = NumberKey::new(n)?;
+        let key = NumberKey::try_from(n)?;
         assert_eq!(rt; key.home(), n);
         assert!(rt; key.is_same(&key));
     }
-    assert!(rt; !NumberKey::new(1)?.is_same(&NumberKey::new(2)?));
+    assert!(rt; !NumberKey::try_from(1)?.is_same(&NumberKey::try_from(2)?));
     assert_eq!(rt; KeyRefusal::Malformed.number(), 12);
     Ok(())
 }
