@@ -9,7 +9,7 @@ use Rattle.faults.specs.declared.refusals.WordFault.{WordFault}
 use Rattle.faults.specs.declared.refusals.WordFault.TheVariants.{Key, Weight}
 use Rattle.text.specs.Lines.{Words, NoWeight}
 use Rattle.text.specs.Tokens.{Tokens, Wrong, first_malformed, second_malformed, weight_malformed, word_of, place_of, before_first_key, before_second_key, before_weight}
-use Rattle.text.specs.declared.lines.Parts.{Parts}
+use Rattle.text.specs.declared.tokens.Parts.{Parts}
 
 module _ (F : List ℕ) (at : ℕ) (begins : at ≡ length F) where
   first_offset : at + 5 ≡ length (before_first_key F)

@@ -8,9 +8,9 @@ use Rattle.faults.specs.declared.places.Place.{Place}
 use Rattle.faults.specs.declared.refusals.LineFault.TheVariants.{Misformed}
 use Rattle.faults.specs.declared.refusals.WordFault.TheVariants as fault
 use Rattle.text.specs.Lines.{Words, NoWords, NoWeight}
-use Rattle.text.specs.declared.lines.Token.{Token}
-use Rattle.text.specs.declared.lines.Token.TheVariants.{Key, Weight}
-use Rattle.text.specs.declared.lines.Parts.{Parts}
+use Rattle.text.specs.declared.tokens.Token.{Token}
+use Rattle.text.specs.declared.tokens.Token.TheVariants.{Key, Weight}
+use Rattle.text.specs.declared.tokens.Parts.{Parts}
 
 abbrev pub word_of : Token → List ℕ
 word_of (Key word place) = word.now

@@ -5,8 +5,8 @@ use Rattle.keys.specs.Words.{Lacks}
 use Rattle.text.proofs.Cuts.{uncut}
 use Rattle.text.specs.Lines.{Words}
 use Rattle.text.proofs.Split.{no_space, after_first, found, found_all, words_from}
-use Rattle.text.proofs.lines.split.Goals as goal
-use Rattle.text.proofs.lines.split.Goals.{In_ok-b}
+use Rattle.text.proofs.tokens.split.Goals as goal
+use Rattle.text.proofs.tokens.split.Goals.{In_ok-b}
 use Rattle.std.proofs.lemmas.Bool.Decides.{Decides-eqb}
 
 pub returns-in_err-word : goal.returns-in_err-word
@@ -32,7 +32,7 @@ returns-in_err-b c =
     (λ a b w h. uncut 32 b w (subst (Lacks 32) (found h _ _ _ _ cut.0 cut.1 cut2.0 cut2.1).1 c.in_err-b.ensures))
 
 -- what the three cuts found are the words of any reading of the line
-only : (c : In_ok-b) (a b w : List ℕ) → Words c.args.line.now a b w → (c.in_ok-a.a.now ≡ a) × (c.in_ok-b.b.now ≡ b) × (c.in_ok-b.w.now ≡ w)
+only : (c : In_ok-b) (a b w : List ℕ) → Words c.args.line.now.bytes.now a b w → (c.in_ok-a.a.now ≡ a) × (c.in_ok-b.b.now ≡ b) × (c.in_ok-b.w.now ≡ w)
 only c a b w h =
     let cut = c.in_ok-word.ensures in
     let cut2 = c.in_ok-a.ensures in
@@ -63,4 +63,4 @@ returns-in-None c =
     let cut3 = c.in_ok-b.ensures in
     let ne = c.if-ne.ensures in
     let same = (slice_eq-Decides Decides-eqb _ _ _ refl).0 (not-false _ (sym ne)) ∙ c.as_slice.ensures in
-    words_from _ _ _ _ _ _ _ c.requires cut.0 same cut2.0 cut3.0 cut2.1 cut3.1 c.in-None.ensures (omega arith) (omega arith) (omega arith)
+    words_from _ _ _ _ _ _ _ c.args.line.now.endless cut.0 same cut2.0 cut3.0 cut2.1 cut3.1 c.in-None.ensures (omega arith) (omega arith) (omega arith)

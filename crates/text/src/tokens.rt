@@ -1,0 +1,120 @@
+//! The tokens of a line, and the join that it writes.
+ghost use Rattle.std.specs.Prelude.{◌≡◌, ℕ, List, length, MatchOption, MatchResult};
+ghost use Rattle.std.specs.Fmt.{signed_decimal};
+ghost use Rattle.keys.specs.Keys.{NoKey};
+ghost use Rattle.keys.specs.declared.kinds.KeyRefusal.TheVariants.{Malformed};
+ghost use Rattle.faults.specs.Faults.{spot};
+ghost use Rattle.faults.specs.declared.refusals.LineFault.TheVariants.{Misformed};
+ghost use Rattle.faults.specs.declared.refusals.WordFault.TheVariants.{Key, Weight};
+ghost use Rattle.text.specs.Joins.{Joins};
+ghost use Rattle.text.specs.Lines.{Short, NoWeight, Words, NoWords};
+ghost use Rattle.text.specs.Tokens.{word_of, place_of, IsKey, IsWeight, Tokens, Wrong};
+
+use crate::lines::Line;
+use crate::takers::Join;
+use crate::words::{cut, weight};
+use faults::{Fault, LineFault, Place, WordFault};
+use keys::Spelled;
+
+/// A word of a join line: a part of the text, with its place there.
+#[derive(Clone, Copy)]
+pub(crate) enum Token<'t> {
+    Key { word: &'t [u8], place: Place },
+    Weight { word: &'t [u8], place: Place },
+}
+
+/// The tokens of a join line.
+#[derive(Clone, Copy)]
+pub(crate) struct Parts<'t> {
+    first: Token<'t>,
+    second: Token<'t>,
+    weight: Token<'t>,
+}
+
+/// The three words of a join line.
+fn split<'t>(line: &Line<'t>) -> Option<(&'t [u8], &'t [u8], &'t [u8])>
+    ensures { MatchOption result (NoWords line.now.bytes.now) (λ p. Words line.now.bytes.now p.0.now p.1.now p.2.now) }
+{
+    let (word, rest) = cut(line.bytes, b' ')?;
+    if word != b"join".as_slice() {
+        return None;
+    }
+    let (a, rest) = cut(rest, b' ')?;
+    let (b, w) = cut(rest, b' ')?;
+    if a.len() == 0 || b.len() == 0 || w.len() == 0 {
+        return None;
+    }
+    match cut(w, b' ') {
+        Some(_) => None,
+        None => Some((a, b, w)),
+    }
+}
+
+/// The tokens of a line, or that it has not the form of a join.
+fn tokens<'t>(line: &Line<'t>) -> Result<Parts<'t>, LineFault>
+    ensures { MatchResult result (λ t. Tokens line.now.bytes.now line.now.number line.now.offset t) (λ e. NoWords line.now.bytes.now × (e ≡ Misformed (spot line.now.number line.now.offset line.now.bytes.now))) }
+{
+    let Some((a, b, w)) = split(line) else {
+        return Err(LineFault::Misformed(line.place()));
+    };
+    let first = line.offset + 5;
+    let second = first + a.len() + 1;
+    let third = second + b.len() + 1;
+    Ok(Parts {
+        first: Token::Key {
+            word: a,
+            place: Place::of(line.number, first, a),
+        },
+        second: Token::Key {
+            word: b,
+            place: Place::of(line.number, second, b),
+        },
+        weight: Token::Weight {
+            word: w,
+            place: Place::of(line.number, third, w),
+        },
+    })
+}
+
+/// The key that a key word spells.
+fn key_of<K: Spelled>(token: Token<'_>) -> Result<K, WordFault>
+    requires { IsKey token }
+    ensures { MatchResult result (λ k. K.Spelled.spelled k ≡ word_of token.entry) (λ e. NoKey K.Spelled.spelled (word_of token.entry) × (e ≡ Key Malformed (place_of token.entry))) }
+{
+    match token {
+        Token::Key { word, place } => match K::read(word) {
+            Ok(key) => Ok(key),
+            Err(refusal) => Err(WordFault::Key(refusal, place)),
+        },
+        Token::Weight { .. } => unreachable(),
+    }
+}
+
+/// The weight that a weight word writes.
+fn weight_of(token: Token<'_>) -> Result<i32, WordFault>
+    requires { IsWeight token }
+    ensures { MatchResult result (λ z. Short z × (signed_decimal z ≡ word_of token.entry)) (λ e. NoWeight (word_of token.entry) × (e ≡ Weight (place_of token.entry))) }
+{
+    match token {
+        Token::Weight { word, place } => match weight(word) {
+            Some(z) => Ok(z),
+            None => Err(WordFault::Weight(place)),
+        },
+        Token::Key { .. } => unreachable(),
+    }
+}
+
+/// The join that a line writes, or the first fault of the line: its form, then its words from left to right.
+pub(crate) fn read_join<K: Spelled>(line: &Line<'_>) -> Result<Join<K>, Fault>
+    ensures { MatchResult result (λ j. Joins K.Spelled.spelled line.now.bytes.now j) (λ f. ((F : List ℕ) → line.now.offset ≡ length F → Wrong K.Spelled.spelled F line.now.bytes.now line.now.number f)) }
+{
+    let parts = tokens(line)?;
+    let first = key_of(parts.first)?;
+    let second = key_of(parts.second)?;
+    let weight = weight_of(parts.weight)?;
+    Ok(Join {
+        first,
+        second,
+        weight,
+    })
+}
