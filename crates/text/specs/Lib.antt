@@ -4,3 +4,4 @@ pub mod Tokens
 pub mod Boards
 pub mod Pieces
 pub mod Passing
+pub mod Readings

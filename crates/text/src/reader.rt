@@ -1,10 +1,10 @@
 //! The reader of a board text.
 ghost use Rattle.std.specs.Prelude.{◌≡◌, ◌<◌, ◌≤◌, List, length, Decides, MatchResult};
 ghost use Rattle.faults.specs.declared.refusals.LineFault.TheVariants.{Misformed};
-ghost use Rattle.text.specs.Boards.{Begins, setting, NoHeader, Told, Complete, OneList, OneOutcome};
+ghost use Rattle.text.specs.Boards.{Begins, setting, NoHeader, Told};
 ghost use Rattle.text.specs.Joins.{handed, Grows};
 ghost use Rattle.text.specs.Passing.{AfterHeader};
-ghost use Rattle.text.specs.Pieces.{NamedIn};
+ghost use Rattle.text.specs.Readings.{Reads};
 
 use crate::lines::Lines;
 use crate::takers::{Headed, Join, Taker};
@@ -26,7 +26,7 @@ fn measure(text: &[u8]) -> Result<(), SizeFault>
 
 /// The lines after the header.
 fn after_header<K: Headed>(text: &[u8]) -> Result<Lines<'_>, LineFault>
-    ensures { MatchResult result (AfterHeader K.Headed.header text.now) (λ e. ((p : Place) × NoHeader K.Headed.header text.now p × (e ≡ Misformed p))) }
+    ensures { MatchResult result (AfterHeader K.header text.now) (λ e. ((p : Place) × NoHeader K.header text.now p × (e ≡ Misformed p))) }
 {
     let mut lines = Lines::of(text);
     let first = lines.pass()?;
@@ -38,7 +38,7 @@ fn after_header<K: Headed>(text: &[u8]) -> Result<Lines<'_>, LineFault>
 
 /// Whether the first line of a text is the header of these keys.
 pub fn begins<K: Headed>(text: &[u8]) -> bool
-    ensures { Decides result (Begins K.Headed.header text.now) }
+    ensures { Decides result (Begins K.header text.now) }
 {
     after_header::<K>(text).is_ok()
 }
@@ -59,7 +59,7 @@ fn hand_on<T: Taker>(
 
 /// The lines of a text one after the other, up to its end or the first fault.
 fn read_through<T: Taker>(text: &[u8], taker: &mut T) -> Result<usize, Fault>
-    ensures told { Told (setting T.Key.Spelled.spelled T.Key.Headed.header T.rule T.Refusal.JobRefusal.numbered) (T.taken taker.old) (T.taken taker.new) text.now result }
+    ensures { Told (setting T.Key.spelled T.Key.header T.rule T.Refusal.numbered) (T.taken taker.old) (T.taken taker.new) text.now result }
 {
     measure(text)?;
     let mut lines = after_header::<T::Key>(text)?;
@@ -72,11 +72,7 @@ fn read_through<T: Taker>(text: &[u8], taker: &mut T) -> Result<usize, Fault>
 
 /// Reads a text and hands on its joins one after the other, up to the first fault; answers how many joins it has.
 pub fn read<T: Taker>(text: &[u8], taker: &mut T) -> Result<usize, Fault>
-    ensures told { Told (setting T.Key.Spelled.spelled T.Key.Headed.header T.rule T.Refusal.JobRefusal.numbered) (T.taken taker.old) (T.taken taker.new) text.now result }
-    ensures one { OneOutcome (setting T.Key.Spelled.spelled T.Key.Headed.header T.rule T.Refusal.JobRefusal.numbered) text.now }
-    ensures complete { Complete (setting T.Key.Spelled.spelled T.Key.Headed.header T.rule T.Refusal.JobRefusal.numbered) (T.taken taker.old) (T.taken taker.new) text.now result }
-    ensures unique { OneList T.Key.Spelled.spelled T.Key.Headed.header text.now }
-    ensures named { NamedIn T.Key.Spelled.spelled (T.taken taker.old) text.now result }
+    ensures { Reads (setting T.Key.spelled T.Key.header T.rule T.Refusal.numbered) (T.taken taker.old) (T.taken taker.new) text.now result }
 {
     read_through(text, taker)
 }

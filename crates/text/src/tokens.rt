@@ -79,7 +79,7 @@ fn tokens<'t>(line: &Line<'t>) -> Result<Parts<'t>, LineFault>
 /// The key that a key word spells.
 fn key_of<K: Spelled>(token: Token<'_>) -> Result<K, WordFault>
     requires { IsKey token }
-    ensures { MatchResult result (λ k. K.Spelled.spelled k ≡ word_of token.entry) (λ e. NoKey K.Spelled.spelled (word_of token.entry) × (e ≡ Key Malformed (place_of token.entry))) }
+    ensures { MatchResult result (λ k. K.spelled k ≡ word_of token.entry) (λ e. NoKey K.spelled (word_of token.entry) × (e ≡ Key Malformed (place_of token.entry))) }
 {
     match token {
         Token::Key { word, place } => match K::read(word) {
@@ -106,7 +106,7 @@ fn weight_of(token: Token<'_>) -> Result<i32, WordFault>
 
 /// The join that a line writes, or the first fault of the line: its form, then its words from left to right.
 pub(crate) fn read_join<K: Spelled>(line: &Line<'_>) -> Result<Join<K>, Fault>
-    ensures { MatchResult result (λ j. Joins K.Spelled.spelled line.now.bytes.now j) (λ f. ((F : List ℕ) → line.now.offset ≡ length F → Wrong K.Spelled.spelled F line.now.bytes.now line.now.number f)) }
+    ensures { MatchResult result (λ j. Joins K.spelled line.now.bytes.now j) (λ f. ((F : List ℕ) → line.now.offset ≡ length F → Wrong K.spelled F line.now.bytes.now line.now.number f)) }
 {
     let parts = tokens(line)?;
     let first = key_of(parts.first)?;

@@ -11,7 +11,7 @@ pub returns-in_err-lines : goal.returns-in_err-lines
 returns-in_err-lines g c =
     let p = err_from_is_err_and c.from_residual-in_err-lines.result c.from_residual-in_err-lines.ensures.1 in
     let e = c.in_err-lines.ensures in
-    record { told = λ before h. (before, headless e.0 c.in_ok-measure.ensures e.1 refl (p.1 ∙ ap Err (p.2 ∙ ap of_line e.2)), h) }
+    λ before h. (before, headless e.0 c.in_ok-measure.ensures e.1 refl (p.1 ∙ ap Err (p.2 ∙ ap of_line e.2)), h)
 
 pub loop-line-init : goal.loop-line-init
 loop-line-init g c = ([], begun c.in_ok-lines.ensures, λ before h. (tt, subst (g.T.Taker.taken c.args.taker.now) (sym (append-nil before)) h))
@@ -22,10 +22,8 @@ returns-in_err-line g c =
     let e = c.in_err-line.ensures in
     let i = c.loop-line.invariant in
     let d = i.1 in
-    record {
-      told = λ before h.
-          (before ++ i.0, reading i.0 _ c.in_ok-measure.ensures d.whole d.fine (i.2 before h).0 refl (unended e.0 e.1.lacks (p.1 ∙ ap Err (p.2 ∙ ap of_line (e.1.fault ∙ ap Misformed (located d _))))), (i.2 before h).1);
-    }
+    λ before h.
+    (before ++ i.0, reading i.0 _ c.in_ok-measure.ensures d.whole d.fine (i.2 before h).0 refl (unended e.0 e.1.lacks (p.1 ∙ ap Err (p.2 ∙ ap of_line (e.1.fault ∙ ap Misformed (located d _))))), (i.2 before h).1)
 
 pub returns-in_err-join : goal.returns-in_err-join
 returns-in_err-join g c =
@@ -33,10 +31,8 @@ returns-in_err-join g c =
     let s = rw c.in-Some.is at c.in_ok-line.ensures in
     let i = c.loop-line.invariant in
     let d = i.1 in
-    record {
-      told = λ before h.
-          (before ++ i.0, reading i.0 _ c.in_ok-measure.ensures d.whole d.fine (i.2 before h).0 refl (wrong _ _ _ s.cut c.in-Some.line.endless (wrong_here d s c.in_err-join.ensures) (p.1 ∙ ap Err p.2)), (i.2 before h).1);
-    }
+    λ before h.
+    (before ++ i.0, reading i.0 _ c.in_ok-measure.ensures d.whole d.fine (i.2 before h).0 refl (wrong _ _ _ s.cut c.in-Some.line.endless (wrong_here d s c.in_err-join.ensures) (p.1 ∙ ap Err p.2)), (i.2 before h).1)
 
 pub returns-in_err-hand_on : goal.returns-in_err-hand_on
 returns-in_err-hand_on g c =
@@ -46,12 +42,10 @@ returns-in_err-hand_on g c =
     let numbered = g.T.Refusal.JobRefusal.numbered in
     let i = c.loop-line.invariant in
     let d = i.1 in
-    record {
-      told = λ before h.
-          let t = i.2 before h in
-          let x = handed_err _ _ _ (a.answers (before ++ i.0) t.1) in
-          (before ++ i.0, reading i.0 _ c.in_ok-measure.ensures d.whole d.fine t.0 refl (refused _ _ c.in_ok-join.join x.0 s.cut c.in-Some.line.endless c.in_ok-join.ensures x.1 (p.1 ∙ ap Err (p.2 ∙ ap (of_join numbered) x.2 ∙ ap (λ q. of_join numbered (record { refusal = x.0; place = q })) (c.place.ensures ∙ line_located d s)))), a.grows (before ++ i.0) t.1);
-    }
+    λ before h.
+    let t = i.2 before h in
+    let x = handed_err _ _ _ (a.answers (before ++ i.0) t.1) in
+    (before ++ i.0, reading i.0 _ c.in_ok-measure.ensures d.whole d.fine t.0 refl (refused _ _ c.in_ok-join.join x.0 s.cut c.in-Some.line.endless c.in_ok-join.ensures x.1 (p.1 ∙ ap Err (p.2 ∙ ap (of_join numbered) x.2 ∙ ap (λ q. of_join numbered (record { refusal = x.0; place = q })) (c.place.ensures ∙ line_located d s)))), a.grows (before ++ i.0) t.1)
 
 pub loop-line-preserved : goal.loop-line-preserved
 loop-line-preserved g c =
@@ -71,7 +65,5 @@ returns g c =
     let e = rw c.in_default.is at c.in_ok-line.ensures in
     let i = c.loop-line.invariant in
     let d = i.1 in
-    record {
-      told = λ before h.
-          (before ++ i.0, reading i.0 _ c.in_ok-measure.ensures d.whole d.fine (i.2 before h).0 refl (ended e.0 (ap (λ l. Ok (l.passed - 1)) e.1 ∙ ap Ok (lines_read d))), (i.2 before h).1);
-    }
+    λ before h.
+    (before ++ i.0, reading i.0 _ c.in_ok-measure.ensures d.whole d.fine (i.2 before h).0 refl (ended e.0 (ap (λ l. Ok (l.passed - 1)) e.1 ∙ ap Ok (lines_read d))), (i.2 before h).1)
