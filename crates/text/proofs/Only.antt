@@ -23,7 +23,7 @@ use Rattle.text.proofs.Weights.{short_mag, weight_word}
 -- a line has its words in one way
 words_only : {L a b w a' b' w' : List ℕ} → Words L a b w → Words L a' b' w' → (a ≡ a') × (b ≡ b') × (w ≡ w')
 words_only {L} {a} {b} {w} h k =
-    found_all k (codes "join") (a ++ 32 ∷ (b ++ 32 ∷ w)) a (b ++ 32 ∷ w) b w h.formed (lacks_by 32 (codes "join") refl) refl h.first.spaceless refl h.second.spaceless
+    found_all k (a ++ 32 ∷ (b ++ 32 ∷ w)) a (b ++ 32 ∷ w) b w h.formed refl h.first.spaceless refl h.second.spaceless
 
 after_space : (s : List ℕ) → Lacks 10 s → Lacks 10 (32 ∷ s)
 after_space s h = lacks_cons 10 32 s (λ e. omega arith) h

@@ -35,19 +35,13 @@ pub(crate) struct Parts<'t> {
 fn split<'t>(line: &Line<'t>) -> Option<(&'t [u8], &'t [u8], &'t [u8])>
     ensures { MatchOption result (NoWords line.now.bytes.now) (λ p. Words line.now.bytes.now p.0.now p.1.now p.2.now) }
 {
-    let (word, rest) = cut(line.bytes, b' ')?;
-    if word != b"join".as_slice() {
-        return None;
-    }
+    let rest = line.bytes.strip_prefix(b"join ")?;
     let (a, rest) = cut(rest, b' ')?;
     let (b, w) = cut(rest, b' ')?;
-    if a.len() == 0 || b.len() == 0 || w.len() == 0 {
+    if a.is_empty() || b.is_empty() || w.is_empty() || w.contains(&b' ') {
         return None;
     }
-    match cut(w, b' ') {
-        Some(_) => None,
-        None => Some((a, b, w)),
-    }
+    Some((a, b, w))
 }
 
 /// The tokens of a line, or that it has not the form of a join.
@@ -82,10 +76,9 @@ fn key_of<K: Spelled>(token: Token<'_>) -> Result<K, WordFault>
     ensures { MatchResult result (λ k. K.spelled k ≡ word_of token.entry) (λ e. NoKey K.spelled (word_of token.entry) × (e ≡ Key Malformed (place_of token.entry))) }
 {
     match token {
-        Token::Key { word, place } => match K::read(word) {
-            Ok(key) => Ok(key),
-            Err(refusal) => Err(WordFault::Key(refusal, place)),
-        },
+        Token::Key { word, place } => {
+            K::read(word).map_err(|refusal| WordFault::Key(refusal, place))
+        }
         Token::Weight { .. } => unreachable(),
     }
 }
@@ -96,10 +89,7 @@ fn weight_of(token: Token<'_>) -> Result<i32, WordFault>
     ensures { MatchResult result (λ z. Short z × (signed_decimal z ≡ word_of token.entry)) (λ e. NoWeight (word_of token.entry) × (e ≡ Weight (place_of token.entry))) }
 {
     match token {
-        Token::Weight { word, place } => match weight(word) {
-            Some(z) => Ok(z),
-            None => Err(WordFault::Weight(place)),
-        },
+        Token::Weight { word, place } => weight(word).ok_or(WordFault::Weight(place)),
         Token::Key { .. } => unreachable(),
     }
 }

@@ -32,13 +32,11 @@ fn size(word: &[u8]) -> Option<u32>
 pub(crate) fn weight(word: &[u8]) -> Option<i32>
     ensures { MatchOption result (NoWeight word.now) (λ z. Short z × (signed_decimal z ≡ word.now)) }
 {
-    if word.len() > 0 && word[0] == b'-' {
-        let n = size(&word[1..])?;
-        if n == 0 {
-            return None; // 0 has no sign
-        }
-        return Some(0 - n as i32);
+    match word.strip_prefix(b"-") {
+        Some(digits) => match size(digits)? {
+            0 => None, // 0 has no sign
+            n => Some(-(n as i32)),
+        },
+        None => Some(size(word)? as i32),
     }
-    let n = size(word)?;
-    Some(n as i32)
 }
