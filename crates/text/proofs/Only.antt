@@ -134,7 +134,7 @@ accepted_at rule before [] more k h = ap (λ l. rule l k) (append-nil before) �
 accepted_at rule before (j ∷ js) more k h = ap (λ l. rule l k) (sym (append_assoc before (j ∷ []) js)) ∙ accepted_at rule (before ++ j ∷ []) js more k h.1
 
 none_some : {R : Type 0} (o : Option R) (e : R) → o ≡ None → o ≡ Some e → ⊥
-none_some o e p q = let z : ◌≡◌ {A = ℕ} 0 1 = cc in omega arith
+none_some o e p q = cc
 
 module _ {K R : Type 0} (s : Setting K R) (word : (k : K) → Word (s.spelled k)) (apart : (a b : K) → s.spelled a ≡ s.spelled b → a ≡ b) where
   -- the reading does not stop before a join that is taken

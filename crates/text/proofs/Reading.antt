@@ -10,13 +10,12 @@ use Rattle.faults.specs.Faults.{spot, placed}
 use Rattle.faults.specs.declared.places.Fault.{Fault}
 use Rattle.faults.specs.declared.refusals.JoinFault.{JoinFault}
 use Rattle.faults.specs.declared.refusals.LineFault.{LineFault}
-use Rattle.faults.specs.declared.refusals.LineFault.TheVariants.{Misformed}
 use Rattle.faults.specs.declared.places.Place.{Place}
 use Rattle.text.specs.Boards.{line_of, written, Fine, Begins, NoHeader, endless, other}
 use Rattle.text.specs.Joins.{Accepts, Joins, handed}
 use Rattle.text.specs.Lines.{spaced}
-use Rattle.text.specs.Passing.{Passes, AfterHeader}
-use Rattle.text.specs.Tokens.{Wrong}
+use Rattle.text.specs.Passing.{Passes, AfterHeader, Headless, spot_of}
+use Rattle.text.specs.Tokens.{Wrong, WrongLine}
 use Rattle.text.specs.declared.lines.Line.{Line}
 use Rattle.text.specs.declared.lines.Lines.{Lines}
 use Rattle.text.specs.declared.takers.Join.{Join}
@@ -69,10 +68,10 @@ module _ {K : Type 0} {spelled : K → List ℕ} {header : List ℕ} where
       let n : lines.passed + 1 ≡ length js + 2 = omega (arith, d.counted) in
       λ i. spot (n i) (d.begins i) piece
 
-  pub line_located : {text : List ℕ} {old new : Lines} {line : Line} {js : List (Join K)} → Begun spelled header text old js → Passes old new line → spot line.number line.offset line.bytes.now ≡ placed (length js + 2) (written spelled header js) line.bytes.now
+  pub line_located : {text : List ℕ} {old new : Lines} {line : Line} {js : List (Join K)} → Begun spelled header text old js → Passes old new line → spot_of line ≡ placed (length js + 2) (written spelled header js) line.bytes.now
   line_located {text} {old} {new} {line} {js} d p = (λ i. spot (p.number i) (p.offset i) line.bytes.now) ∙ located d line.bytes.now
 
-  pub wrong_here : {text : List ℕ} {old new : Lines} {line : Line} {js : List (Join K)} {f : Fault} → Begun spelled header text old js → Passes old new line → ((F : List ℕ) → line.offset ≡ length F → Wrong spelled F line.bytes.now line.number f) → Wrong spelled (written spelled header js) line.bytes.now (length js + 2) f
+  pub wrong_here : {text : List ℕ} {old new : Lines} {line : Line} {js : List (Join K)} {f : Fault} → Begun spelled header text old js → Passes old new line → WrongLine spelled line f → Wrong spelled (written spelled header js) line.bytes.now (length js + 2) f
   wrong_here {text} {old} {new} {line} {js} {f} d p w =
       let n : line.number ≡ length js + 2 = omega (arith, d.counted, p.number) in
       subst (λ n. Wrong spelled (written spelled header js) line.bytes.now n f) n (w (written spelled header js) (p.offset ∙ d.begins))
@@ -86,7 +85,7 @@ headless_begins single (endless lacks is) b = uncut 10 _ b.0 (subst (Lacks 10) b
 headless_begins single (other L rest at lacks ne is) b = ne (same_cut 10 L _ rest b.0 lacks single (sym at ∙ b.1)).0
 
 -- the header is passed just where the text begins with it
-pub header_decided : (header text : List ℕ) → Lacks 10 header → (r : Result Lines LineFault) → MatchResult r (AfterHeader header text) (λ e. ((p : Place) × NoHeader header text p × (e ≡ Misformed p))) → Decides (is_ok r) (Begins header text)
+pub header_decided : (header text : List ℕ) → Lacks 10 header → (r : Result Lines LineFault) → MatchResult r (AfterHeader header text) (Headless header text) → Decides (is_ok r) (Begins header text)
 header_decided header text single (Ok lines) h = (λ is. (lines.rest.now, h.whole), λ b. refl)
 header_decided header text single (Err e) h = (λ is. absurd (false≢true is), λ b. absurd (headless_begins single h.1 b))
 

@@ -1,6 +1,6 @@
 -- The words of a line, found and unique. Assumes nothing.
-use Rattle.std.proofs.Common.{◌≡◌, ℕ, ◌+◌, ◌<◌, List, ◌∷◌, ◌++◌, length, codes, sym, ap, ◌∙◌, subst, arith}
-use Rattle.std.proofs.lemmas.List.{length-append, append_cancel_left}
+use Rattle.std.proofs.Common.{◌≡◌, ℕ, ◌<◌, List, ◌∷◌, ◌++◌, length, codes, sym, ap, ◌∙◌, subst}
+use Rattle.std.proofs.lemmas.List.{append_cancel_left}
 use Rattle.keys.specs.Words.{Lacks}
 use Rattle.text.proofs.Cuts.{same_cut, lacks_left, lacks_right, lacks_tail}
 use Rattle.text.specs.Lines.{spaced, Words}
@@ -31,9 +31,3 @@ words_from L rest a rest2 b w ends e1 e2 e3 la lb lw na nb nw =
       second = record { some = nb; spaceless = lb; endless = lacks_left 10 b _ l2 };
       third = record { some = nw; spaceless = lw; endless = l3 };
     }
-
--- how long the line is
-pub spaced_length : {L a b w : List ℕ} → Words L a b w → length L ≡ 5 + length a + 1 + length b + 1 + length w
-spaced_length {L} {a} {b} {w} h =
-    let e = ap length h.formed in
-    omega (arith, e, length-append a (32 ∷ (b ++ 32 ∷ w)), length-append b (32 ∷ w))

@@ -1,7 +1,6 @@
 //! The lines of a text, each with its number and where it begins.
 ghost use Rattle.std.specs.Prelude.{◌≡◌, ◌+◌, ◌^◌, ◌<◌, ◌≤◌, length};
 ghost use Rattle.keys.specs.Words.{Lacks};
-ghost use Rattle.faults.specs.Faults.{spot};
 
 use crate::words::cut;
 use faults::{LineFault, Place};
@@ -17,9 +16,11 @@ pub(crate) struct Line<'t> {
 }
 
 impl Line<'_> {
+    ghost use Rattle.text.specs.Passing.{spot_of};
+
     /// The place of the line.
     pub(crate) fn place(&self) -> Place
-        ensures { result ≡ spot self.now.number self.now.offset self.now.bytes.now }
+        ensures { result ≡ spot_of self.now }
     {
         Place::of(self.number, self.offset, self.bytes)
     }

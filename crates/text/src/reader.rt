@@ -1,9 +1,8 @@
 //! The reader of a board text.
 ghost use Rattle.std.specs.Prelude.{◌≡◌, ◌<◌, ◌≤◌, List, length, Decides, MatchResult};
-ghost use Rattle.faults.specs.declared.refusals.LineFault.TheVariants.{Misformed};
-ghost use Rattle.text.specs.Boards.{Begins, setting, NoHeader, Told};
+ghost use Rattle.text.specs.Boards.{Begins, setting, Told};
 ghost use Rattle.text.specs.Joins.{handed, Grows};
-ghost use Rattle.text.specs.Passing.{AfterHeader};
+ghost use Rattle.text.specs.Passing.{AfterHeader, Headless};
 ghost use Rattle.text.specs.Readings.{Reads};
 
 use crate::lines::Lines;
@@ -26,7 +25,7 @@ fn measure(text: &[u8]) -> Result<(), SizeFault>
 
 /// The lines after the header.
 fn after_header<K: Headed>(text: &[u8]) -> Result<Lines<'_>, LineFault>
-    ensures { MatchResult result (AfterHeader K.header text.now) (λ e. ((p : Place) × NoHeader K.header text.now p × (e ≡ Misformed p))) }
+    ensures { MatchResult result (AfterHeader K.header text.now) (Headless K.header text.now) }
 {
     let mut lines = Lines::of(text);
     let first = lines.pass()?;

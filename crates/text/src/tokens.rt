@@ -1,14 +1,14 @@
 //! The tokens of a line, and the join that it writes.
-ghost use Rattle.std.specs.Prelude.{◌≡◌, ℕ, List, length, MatchOption, MatchResult};
+ghost use Rattle.std.specs.Prelude.{◌≡◌, MatchOption, MatchResult};
 ghost use Rattle.std.specs.Fmt.{signed_decimal};
 ghost use Rattle.keys.specs.Keys.{NoKey};
 ghost use Rattle.keys.specs.declared.kinds.KeyRefusal.TheVariants.{Malformed};
-ghost use Rattle.faults.specs.Faults.{spot};
 ghost use Rattle.faults.specs.declared.refusals.LineFault.TheVariants.{Misformed};
 ghost use Rattle.faults.specs.declared.refusals.WordFault.TheVariants.{Key, Weight};
 ghost use Rattle.text.specs.Joins.{Joins};
 ghost use Rattle.text.specs.Lines.{Short, NoWeight, Words, NoWords};
-ghost use Rattle.text.specs.Tokens.{word_of, place_of, IsKey, IsWeight, Tokens, Wrong};
+ghost use Rattle.text.specs.Passing.{spot_of};
+ghost use Rattle.text.specs.Tokens.{word_of, place_of, IsKey, IsWeight, Tokens, WrongLine};
 
 use crate::lines::Line;
 use crate::takers::Join;
@@ -46,7 +46,7 @@ fn split<'t>(line: &Line<'t>) -> Option<(&'t [u8], &'t [u8], &'t [u8])>
 
 /// The tokens of a line, or that it has not the form of a join.
 fn tokens<'t>(line: &Line<'t>) -> Result<Parts<'t>, LineFault>
-    ensures { MatchResult result (λ t. Tokens line.now.bytes.now line.now.number line.now.offset t) (λ e. NoWords line.now.bytes.now × (e ≡ Misformed (spot line.now.number line.now.offset line.now.bytes.now))) }
+    ensures { MatchResult result (Tokens line.now) (λ e. NoWords line.now.bytes.now × (e ≡ Misformed (spot_of line.now))) }
 {
     let Some((a, b, w)) = split(line) else {
         return Err(LineFault::Misformed(line.place()));
@@ -96,7 +96,7 @@ fn weight_of(token: Token<'_>) -> Result<i32, WordFault>
 
 /// The join that a line writes, or the first fault of the line: its form, then its words from left to right.
 pub(crate) fn read_join<K: Spelled>(line: &Line<'_>) -> Result<Join<K>, Fault>
-    ensures { MatchResult result (λ j. Joins K.spelled line.now.bytes.now j) (λ f. ((F : List ℕ) → line.now.offset ≡ length F → Wrong K.spelled F line.now.bytes.now line.now.number f)) }
+    ensures { MatchResult result (Joins K.spelled line.now.bytes.now) (WrongLine K.spelled line.now) }
 {
     let parts = tokens(line)?;
     let first = key_of(parts.first)?;
