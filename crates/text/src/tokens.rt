@@ -16,6 +16,9 @@ use crate::words::{cut, weight};
 use faults::{Fault, LineFault, Place, WordFault};
 use keys::Spelled;
 
+/// What a join line begins with.
+const JOIN: &[u8] = b"join ";
+
 /// A word of a join line: a part of the text, with its place there.
 #[derive(Clone, Copy)]
 pub(crate) enum Token<'t> {
@@ -35,37 +38,38 @@ pub(crate) struct Parts<'t> {
 fn split<'t>(line: &Line<'t>) -> Option<(&'t [u8], &'t [u8], &'t [u8])>
     ensures { MatchOption result (NoWords line.now.bytes.now) (λ p. Words line.now.bytes.now p.0.now p.1.now p.2.now) }
 {
-    let rest = line.bytes.strip_prefix(b"join ")?;
-    let (a, rest) = cut(rest, b' ')?;
-    let (b, w) = cut(rest, b' ')?;
-    if a.is_empty() || b.is_empty() || w.is_empty() || w.contains(&b' ') {
+    let rest = line.bytes.strip_prefix(JOIN)?;
+    let (first, rest) = cut(rest, b' ')?;
+    let (second, weight) = cut(rest, b' ')?;
+    if first.is_empty() || second.is_empty() || weight.is_empty() || weight.contains(&b' ') {
         return None;
     }
-    Some((a, b, w))
+    Some((first, second, weight))
 }
 
 /// The tokens of a line, or that it has not the form of a join.
 fn tokens<'t>(line: &Line<'t>) -> Result<Parts<'t>, LineFault>
     ensures { MatchResult result (Tokens line.now) (λ e. NoWords line.now.bytes.now × (e ≡ Misformed (spot_of line.now))) }
 {
-    let Some((a, b, w)) = split(line) else {
+    let Some((first, second, weight)) = split(line) else {
         return Err(LineFault::Misformed(line.place()));
     };
-    let first = line.offset + 5;
-    let second = first + a.len() + 1;
-    let third = second + b.len() + 1;
+    let number = line.number;
+    let first_offset = line.offset + JOIN.len();
+    let second_offset = first_offset + first.len() + 1;
+    let weight_offset = second_offset + second.len() + 1;
     Ok(Parts {
         first: Token::Key {
-            word: a,
-            place: Place::of(line.number, first, a),
+            word: first,
+            place: Place::of(number, first_offset, first),
         },
         second: Token::Key {
-            word: b,
-            place: Place::of(line.number, second, b),
+            word: second,
+            place: Place::of(number, second_offset, second),
         },
         weight: Token::Weight {
-            word: w,
-            place: Place::of(line.number, third, w),
+            word: weight,
+            place: Place::of(number, weight_offset, weight),
         },
     })
 }

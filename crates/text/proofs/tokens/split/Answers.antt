@@ -11,21 +11,21 @@ use Rattle.text.proofs.tokens.split.Goals.{In_ok-rest, then-is_empty-via-then-is
 joined : (c : In_ok-rest) → c.args.line.now.bytes.now ≡ codes "join " ++ c.in_ok-rest.rest.now
 joined c = strip_prefix_is Decides-eqb _ (codes "join ") (Some c.in_ok-rest.rest) c.in_ok-rest.ensures.cases
 
-pub returns-in_err-a : goal.returns-in_err-a
-returns-in_err-a c =
-    rw c.from_residual-in_err-a.ensures
-    (λ a b w h. uncut 32 a (b ++ 32 ∷ w) (subst (Lacks 32) (after_join h _ (joined (goal.at.returns-in_err-a c).In_ok-rest)) c.in_err-a.ensures))
+pub returns-in_err-first : goal.returns-in_err-first
+returns-in_err-first c =
+    rw c.from_residual-in_err-first.ensures
+    (λ a b w h. uncut 32 a (b ++ 32 ∷ w) (subst (Lacks 32) (after_join h _ (joined (goal.at.returns-in_err-first c).In_ok-rest)) c.in_err-first.ensures))
 
-pub returns-in_err-b : goal.returns-in_err-b
-returns-in_err-b c =
-    let cut = c.in_ok-a.ensures in
-    rw c.from_residual-in_err-b.ensures
-    (λ a b w h. uncut 32 b w (subst (Lacks 32) (found h _ _ _ (joined (goal.at.returns-in_err-b c).In_ok-rest) cut.0 cut.1).1 c.in_err-b.ensures))
+pub returns-in_err-second : goal.returns-in_err-second
+returns-in_err-second c =
+    let cut = c.in_ok-first.ensures in
+    rw c.from_residual-in_err-second.ensures
+    (λ a b w h. uncut 32 b w (subst (Lacks 32) (found h _ _ _ (joined (goal.at.returns-in_err-second c).In_ok-rest) cut.0 cut.1).1 c.in_err-second.ensures))
 
 pub returns-then-is_empty : goal.returns-then-is_empty
 returns-then-is_empty c a b w h =
-    let cut = c.in_ok-a.ensures in
-    let cut2 = c.in_ok-b.ensures in
+    let cut = c.in_ok-first.ensures in
+    let cut2 = c.in_ok-second.ensures in
     let p = found_all h _ _ _ _ _ (joined (goal.at.returns-then-is_empty c).In_ok-rest) cut.0 cut.1 cut2.0 cut2.1 in
     let first = h.first.some in
     let second = h.second.some in
@@ -44,6 +44,6 @@ returns-then-is_empty c a b w h =
 
 pub returns : goal.returns
 returns c =
-    let cut = c.in_ok-a.ensures in
-    let cut2 = c.in_ok-b.ensures in
+    let cut = c.in_ok-first.ensures in
+    let cut2 = c.in_ok-second.ensures in
     words_from _ _ _ _ _ _ c.args.line.now.endless (joined (goal.at.returns c).In_ok-rest) cut.0 cut2.0 cut.1 cut2.1 (λ i l. eqb-false _ 32 (c.if-contains.ensures.cases i 0 (omega arith) l)) (omega (arith, false-eqb _ 0 c.if-is_empty.ensures)) (omega (arith, false-eqb _ 0 c.if-is_empty-2.ensures)) (omega (arith, false-eqb _ 0 c.if-is_empty-3.ensures))
