@@ -7,4 +7,4 @@ pub mod refusals;
 
 pub use pieces::piece;
 pub use places::{Fault, Layer, Place};
-pub use refusals::{JoinFault, LineFault, SizeFault, WordFault};
+pub use refusals::{JobRefusal, JoinFault, LineFault, SizeFault, WordFault};

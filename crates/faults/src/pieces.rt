@@ -8,13 +8,8 @@ use crate::places::{Fault, Layer};
 fn part(file: &[u8], offset: usize, length: usize) -> &[u8]
     ensures { result.now ≡ take length (drop offset file.now) }
 {
-    if offset >= file.len() {
-        return &file[file.len()..];
-    }
-    if length >= file.len() - offset {
-        return &file[offset..];
-    }
-    &file[offset..offset + length]
+    let rest = &file[offset.min(file.len())..];
+    &rest[..length.min(rest.len())]
 }
 
 /// The piece that a fault names, as a part of the board text or of the step file.

@@ -1,5 +1,5 @@
 //! The refusals of a board text and of the joins in it, each of which becomes one fault.
-ghost use Rattle.std.specs.Prelude.{◌≡◌};
+ghost use Rattle.std.specs.Prelude.{◌≡◌, ℕ, ◌≤◌};
 ghost use Rattle.faults.specs.Faults.{of_size, of_line, of_word, of_join};
 
 use crate::places::{Fault, Layer, Place};
@@ -24,10 +24,21 @@ pub enum WordFault {
     Weight(Place),
 }
 
-/// A join that was not taken, by the number of its refusal.
-#[derive(Clone, Copy)]
-pub struct JoinFault {
-    pub number: u8,
+/// A refusal of the job, which is known by its number.
+pub trait JobRefusal {
+    ghost numbered: { Self → ℕ };
+
+    /// The number.
+    fn number(&self) -> u8
+        ensures { result ≡ numbered self.now };
+
+    ghost within: { (e : Self) → (21 ≤ numbered e) × (numbered e ≤ 26) };
+}
+
+/// A join that was not taken, and its line.
+#[derive(Drop)]
+pub struct JoinFault<R> {
+    pub refusal: R,
     pub place: Place,
 }
 
@@ -82,13 +93,13 @@ impl From<WordFault> for Fault {
     }
 }
 
-impl From<JoinFault> for Fault {
-    ghost from_gives = { λ e f. f ≡ of_join e };
+impl<R: JobRefusal + Drop> From<JoinFault<R>> for Fault {
+    ghost from_gives = { λ e f. f ≡ of_join R.numbered e };
 
-    fn from(e: JoinFault) -> Fault {
+    fn from(e: JoinFault<R>) -> Fault {
         Fault {
             layer: Layer::Job,
-            number: e.number,
+            number: e.refusal.number(),
             place: e.place,
         }
     }

@@ -4,9 +4,10 @@ ghost use Rattle.text.specs.Joins.{Answers, Grows};
 ghost use Rattle.survey.specs.Census.{Counted, never_number};
 ghost use Rattle.std.proofs.Common.{rules};
 
+use faults::JobRefusal;
 use keys::Spelled;
 use std::marker::PhantomData;
-use text::takers::{Headed, JobRefusal, Join, Taker};
+use text::takers::{Headed, Join, Taker};
 
 /// How many joins were taken, and the sum of their weights' sizes; each stops at 2^64 − 1.
 #[derive(Drop)]

@@ -1,18 +1,9 @@
 -- Texts that are cut at a byte. Assumes nothing.
-use Rattle.std.proofs.Common.{◌≡◌, ℕ, zero, suc, ◌+◌, ◌<◌, ◌≤◌, true, not, eqb, List, [], ◌∷◌, ◌++◌, length, get_or, take, drop, sym, refl, ap, ◌∙◌, arith, get_or-take}
+use Rattle.std.proofs.Common.{◌≡◌, ℕ, zero, suc, ◌+◌, true, not, eqb, List, [], ◌∷◌, ◌++◌, length, refl, ◌∙◌, arith}
 use Rattle.std.proofs.lemmas.Bool.{and_parts, eqb-false, not-true}
-use Rattle.std.proofs.lemmas.List.{take-append-drop, drop_more, length-take, length-append, get_or_append_left, get_or-append-add}
+use Rattle.std.proofs.lemmas.List.{length-append, get_or_append_left, get_or-append-add}
 use Rattle.keys.specs.Words.{Lacks}
 use Rattle.text.specs.Lines.{lacks}
-
--- the part before n lacks the byte, and the byte is at n
-pub cut_at : (s : List ℕ) (c n : ℕ) → n < length s → get_or s n 0 ≡ c → s ≡ take n s ++ c ∷ drop (n + 1) s
-cut_at s c n l e = sym (take-append-drop n s) ∙ ap (λ t. take n s ++ t) (drop_more s n 0 l ∙ ap (λ x. x ∷ drop (n + 1) s) e)
-
-pub lacks_front : (s : List ℕ) (c n : ℕ) → n ≤ length s → ((k : ℕ) → k < n → get_or s k 0 ≡ c → ⊥) → Lacks c (take n s)
-lacks_front s c n l h i lt e =
-    let k : i < n = omega (arith, length-take n s) in
-    h i k (sym (get_or-take n s i 0 k) ∙ e)
 
 -- a text that lacks the byte is not cut at it
 pub uncut : (c : ℕ) (x y : List ℕ) → Lacks c (x ++ c ∷ y) → ⊥

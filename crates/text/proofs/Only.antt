@@ -23,7 +23,7 @@ use Rattle.text.proofs.Weights.{short_mag, weight_word}
 -- a line has its words in one way
 words_only : {L a b w a' b' w' : List ℕ} → Words L a b w → Words L a' b' w' → (a ≡ a') × (b ≡ b') × (w ≡ w')
 words_only {L} {a} {b} {w} h k =
-    found_all k (codes "join") (a ++ 32 ∷ (b ++ 32 ∷ w)) a (b ++ 32 ∷ w) b w h.formed (lacks_by 32 (codes "join") refl) refl h.first.spaceless refl h.second.spaceless
+    found_all k (a ++ 32 ∷ (b ++ 32 ∷ w)) a (b ++ 32 ∷ w) b w h.formed refl h.first.spaceless refl h.second.spaceless
 
 after_space : (s : List ℕ) → Lacks 10 s → Lacks 10 (32 ∷ s)
 after_space s h = lacks_cons 10 32 s (λ e. omega arith) h
@@ -134,7 +134,7 @@ accepted_at rule before [] more k h = ap (λ l. rule l k) (append-nil before) �
 accepted_at rule before (j ∷ js) more k h = ap (λ l. rule l k) (sym (append_assoc before (j ∷ []) js)) ∙ accepted_at rule (before ++ j ∷ []) js more k h.1
 
 none_some : {R : Type 0} (o : Option R) (e : R) → o ≡ None → o ≡ Some e → ⊥
-none_some o e p q = let z : ◌≡◌ {A = ℕ} 0 1 = cc in omega arith
+none_some o e p q = cc
 
 module _ {K R : Type 0} (s : Setting K R) (word : (k : K) → Word (s.spelled k)) (apart : (a b : K) → s.spelled a ≡ s.spelled b → a ≡ b) where
   -- the reading does not stop before a join that is taken
@@ -177,7 +177,7 @@ module _ {K R : Type 0} (s : Setting K R) (word : (k : K) → Word (s.spelled k)
       let one : j ≡ j' = joins_only s.spelled word apart L' j j' (subst (λ l. Joins s.spelled l j) p.0 joins) joins' in
       let both : Some x ≡ Some x' = sym told ∙ ap (s.rule taken) one ∙ told' in
       let same_x : x ≡ x' = cc in
-      e ∙ ap (λ y. Err (of_join (record { number = s.numbered y; place = placed (n + 2) F L }))) same_x ∙ ap (λ l. Err (of_join (record { number = s.numbered x'; place = placed (n + 2) F l }))) p.0 ∙ sym e'
+      e ∙ ap (λ y. Err (of_join s.numbered (record { refusal = y; place = placed (n + 2) F L }))) same_x ∙ ap (λ l. Err (of_join s.numbered (record { refusal = x'; place = placed (n + 2) F l }))) p.0 ∙ sym e'
 
   module _ (single : Lacks 10 s.header) (text : List ℕ) where
     headed : (js : List (Join K)) (rest : List ℕ) → text ≡ written s.spelled s.header js ++ rest → text ≡ s.header ++ 10 ∷ (flat_map (line_of s.spelled) js ++ rest)

@@ -14,9 +14,6 @@ use Rattle.text.specs.Pieces.{LineOf, Named, NamedBy}
 use Rattle.text.specs.Tokens.{Wrong, misformed, first_malformed, second_malformed, weight_malformed, before_first_key, before_second_key, before_weight}
 use Rattle.text.specs.declared.takers.Join.{Join}
 
-other_layer : Text ≡ Job → ⊥
-other_layer e = let z : ◌≡◌ {A = ℕ} 0 1 = cc in omega arith
-
 -- what stands between two parts of a text
 between : (front piece back text : List ℕ) → text ≡ front ++ (piece ++ back) → take (length piece) (drop (length front) text) ≡ piece
 between front piece back text e =
@@ -38,17 +35,17 @@ module _ {K : Type 0} (spelled : K → List ℕ) (text steps : List ℕ) where
         key = λ t n. absurd (omega arith);
         weight = λ t n. absurd (omega arith);
         size = λ t n. absurd (omega arith);
-        join = λ t. absurd (other_layer t);
+        join = λ t. cc;
         layered = (lit≤ tt, lit≤ tt);
       }
 
   named_join : (number line : ℕ) (front piece back : List ℕ) → (21 ≤ number) × (number ≤ 26) → text ≡ front ++ (piece ++ back) → LineOf text piece → Named spelled text steps (fault Job number (placed line front piece))
   named_join number line front piece back within e h =
       record {
-        line = λ t n. absurd (other_layer (sym t));
-        key = λ t n. absurd (other_layer (sym t));
-        weight = λ t n. absurd (other_layer (sym t));
-        size = λ t n. absurd (other_layer (sym t));
+        line = λ t n. cc;
+        key = λ t n. cc;
+        weight = λ t n. cc;
+        size = λ t n. cc;
         join = λ t. subst (LineOf text) (sym (between front piece back text e)) h;
         layered = within;
       }
@@ -60,7 +57,7 @@ module _ {K : Type 0} (spelled : K → List ℕ) (text steps : List ℕ) where
         key = λ t n. subst (NoKey spelled) (sym (between front piece back text e)) h;
         weight = λ t n. absurd (omega arith);
         size = λ t n. absurd (omega arith);
-        join = λ t. absurd (other_layer t);
+        join = λ t. cc;
         layered = (lit≤ tt, lit≤ tt);
       }
 
@@ -71,7 +68,7 @@ module _ {K : Type 0} (spelled : K → List ℕ) (text steps : List ℕ) where
         key = λ t n. absurd (omega arith);
         weight = λ t n. subst NoWeight (sym (between front piece back text e)) h;
         size = λ t n. absurd (omega arith);
-        join = λ t. absurd (other_layer t);
+        join = λ t. cc;
         layered = (lit≤ tt, lit≤ tt);
       }
 
@@ -82,7 +79,7 @@ module _ {K : Type 0} (spelled : K → List ℕ) (text steps : List ℕ) where
         key = λ t n. absurd (omega arith);
         weight = λ t n. absurd (omega arith);
         size = λ t n. refl;
-        join = λ t. absurd (other_layer t);
+        join = λ t. cc;
         layered = (lit≤ tt, lit≤ tt);
       }
 

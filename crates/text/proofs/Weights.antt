@@ -1,5 +1,5 @@
 -- Which words write a weight. Assumes nothing.
-use Rattle.std.proofs.Common.{◌≡◌, ℕ, zero, suc, ◌^◌, ◌<◌, List, ◌∷◌, ℤ, pos, negsuc, neg_ℤ, decimal, sym, refl, ap, ◌∙◌, subst, arith, lit<}
+use Rattle.std.proofs.Common.{◌≡◌, ℕ, suc, ◌^◌, ◌<◌, List, ◌∷◌, ℤ, pos, negsuc, decimal, ◌∙◌, arith, lit<}
 use lib.Signed.{mag}
 use Rattle.std.specs.Fmt.{signed_decimal}
 use Rattle.std.proofs.lemmas.Fmt.{decimal_injective}
@@ -24,10 +24,6 @@ module _ (w : List ℕ) where
       let same : decimal (suc n) ≡ decimal 0 = cc in
       let small : suc n < 10000000 = l in
       omega (arith, decimal_injective (suc n) 0 (omega arith) (lit< tt) same)
-
-  pub minus_some : (rest : List ℕ) (n : ℕ) (z : ℤ) → w ≡ 45 ∷ rest → n < 10 ^ 7 → decimal n ≡ rest → (n ≡ 0 → ⊥) → z ≡ neg_ℤ (pos n) → Short z × (signed_decimal z ≡ w)
-  minus_some rest zero z e l h some is = absurd (some refl)
-  minus_some rest (suc n) z e l h some is = subst (λ y. Short y × (signed_decimal y ≡ w)) (sym is) (l, ap (λ r. 45 ∷ r) h ∙ sym e)
 
 pub short_mag : (z : ℤ) → Short z → mag z < 2 ^ 63
 short_mag (pos n) h = let l : n < 10000000 = h in omega arith

@@ -3,3 +3,5 @@ pub mod Joins
 pub mod Tokens
 pub mod Boards
 pub mod Pieces
+pub mod Passing
+pub mod Readings

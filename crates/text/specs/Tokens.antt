@@ -8,9 +8,10 @@ use Rattle.faults.specs.declared.places.Place.{Place}
 use Rattle.faults.specs.declared.refusals.LineFault.TheVariants.{Misformed}
 use Rattle.faults.specs.declared.refusals.WordFault.TheVariants as fault
 use Rattle.text.specs.Lines.{Words, NoWords, NoWeight}
-use Rattle.text.specs.declared.lines.Token.{Token}
-use Rattle.text.specs.declared.lines.Token.TheVariants.{Key, Weight}
-use Rattle.text.specs.declared.lines.Parts.{Parts}
+use Rattle.text.specs.declared.lines.Line.{Line}
+use Rattle.text.specs.declared.tokens.Token.{Token}
+use Rattle.text.specs.declared.tokens.Token.TheVariants.{Key, Weight}
+use Rattle.text.specs.declared.tokens.Parts.{Parts}
 
 abbrev pub word_of : Token → List ℕ
 word_of (Key word place) = word.now
@@ -28,15 +29,15 @@ abbrev pub IsWeight : Token → Type 0
 IsWeight (Key word place) = ⊥
 IsWeight (Weight word place) = Unit {0}
 
--- the tokens of the line L, which begins at an offset
-pub record Tokens (L : List ℕ) (line at : ℕ) (t : Parts) : Type 0 where
-  pub worded : Words L (word_of t.first) (word_of t.second) (word_of t.weight)
+-- the tokens of a line
+pub record Tokens (line : Line) (t : Parts) : Type 0 where
+  pub worded : Words line.bytes.now (word_of t.first) (word_of t.second) (word_of t.weight)
   pub first_key : IsKey t.first
   pub second_key : IsKey t.second
   pub third_weight : IsWeight t.weight
-  pub first_at : place_of t.first ≡ spot line (at + 5) (word_of t.first)
-  pub second_at : place_of t.second ≡ spot line (at + 5 + length (word_of t.first) + 1) (word_of t.second)
-  pub third_at : place_of t.weight ≡ spot line (at + 5 + length (word_of t.first) + 1 + length (word_of t.second) + 1) (word_of t.weight)
+  pub first_at : place_of t.first ≡ spot line.number (line.offset + 5) (word_of t.first)
+  pub second_at : place_of t.second ≡ spot line.number (line.offset + 5 + length (word_of t.first) + 1) (word_of t.second)
+  pub third_at : place_of t.weight ≡ spot line.number (line.offset + 5 + length (word_of t.first) + 1 + length (word_of t.second) + 1) (word_of t.weight)
 
 -- what stands in the text before each word of a line that F stands before
 abbrev pub before_first_key : List ℕ → List ℕ
@@ -54,3 +55,7 @@ pub data Wrong {K : Type 0} (spelled : K → List ℕ) (F L : List ℕ) (line : 
   first_malformed : (a b w : List ℕ) → Words L a b w → NoKey spelled a → f ≡ of_word (fault.Key Malformed (placed line (before_first_key F) a)) → Wrong spelled F L line f
   second_malformed : (a : K) (b w : List ℕ) → Words L (spelled a) b w → NoKey spelled b → f ≡ of_word (fault.Key Malformed (placed line (before_second_key F (spelled a)) b)) → Wrong spelled F L line f
   weight_malformed : (a b : K) (w : List ℕ) → Words L (spelled a) (spelled b) w → NoWeight w → f ≡ of_word (fault.Weight (placed line (before_weight F (spelled a) (spelled b)) w)) → Wrong spelled F L line f
+
+-- f is the fault of a line of the text, whatever stands before it
+abbrev pub WrongLine : {K : Type 0} → (K → List ℕ) → Line → Fault → Type 0
+WrongLine spelled line f = (F : List ℕ) → line.offset ≡ length F → Wrong spelled F line.bytes.now line.number f

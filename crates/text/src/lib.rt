@@ -5,4 +5,5 @@ pub mod headers;
 mod lines;
 pub mod reader;
 pub mod takers;
+mod tokens;
 mod words;

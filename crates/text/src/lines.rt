@@ -1,124 +1,86 @@
-//! One line of a board text: its tokens, and the join that it writes.
-ghost use Rattle.std.specs.Prelude.{◌≡◌, ℕ, ◌+◌, ◌^◌, ◌<◌, List, length, MatchOption, MatchResult};
-ghost use Rattle.std.specs.Fmt.{signed_decimal};
-ghost use Rattle.keys.specs.Keys.{NoKey};
+//! The lines of a text, each with its number and where it begins.
+ghost use Rattle.std.specs.Prelude.{◌≡◌, ◌+◌, ◌^◌, ◌<◌, ◌≤◌, length};
 ghost use Rattle.keys.specs.Words.{Lacks};
-ghost use Rattle.keys.specs.declared.kinds.KeyRefusal.TheVariants.{Malformed};
-ghost use Rattle.faults.specs.Faults.{spot};
-ghost use Rattle.faults.specs.declared.refusals.LineFault.TheVariants.{Misformed};
-ghost use Rattle.faults.specs.declared.refusals.WordFault.TheVariants.{Key, Weight};
-ghost use Rattle.text.specs.Joins.{Joins};
-ghost use Rattle.text.specs.Lines.{Short, NoWeight, Words, NoWords};
-ghost use Rattle.text.specs.Tokens.{word_of, place_of, IsKey, IsWeight, Tokens, Wrong};
 
-use crate::takers::Join;
-use crate::words::{cut, weight};
-use faults::{Fault, LineFault, Place, WordFault};
-use keys::Spelled;
+use crate::words::cut;
+use faults::{LineFault, Place};
 
-/// A word of a join line: a part of the text, with its place there.
+/// A line of the text, without its end: its number, from 1, and where it begins.
 #[derive(Clone, Copy)]
-pub(crate) enum Token<'t> {
-    Key { word: &'t [u8], place: Place },
-    Weight { word: &'t [u8], place: Place },
+pub(crate) struct Line<'t> {
+    pub bytes: &'t [u8],
+    pub number: usize,
+    pub offset: usize,
+    ghost endless: { Lacks 10 bytes.now },
+    ghost within: { offset + length bytes.now < 2 ^ 64 },
 }
 
-/// The tokens of a join line.
-#[derive(Clone, Copy)]
-pub(crate) struct Parts<'t> {
-    first: Token<'t>,
-    second: Token<'t>,
-    weight: Token<'t>,
-}
+impl Line<'_> {
+    ghost use Rattle.text.specs.Passing.{spot_of};
 
-/// The three words of a join line.
-fn split<'t>(line: &'t [u8]) -> Option<(&'t [u8], &'t [u8], &'t [u8])>
-    requires { Lacks 10 line.now }
-    ensures { MatchOption result (NoWords line.now) (λ p. Words line.now p.0.now p.1.now p.2.now) }
-{
-    let (word, rest) = cut(line, b' ')?;
-    if word != b"join".as_slice() {
-        return None;
-    }
-    let (a, rest) = cut(rest, b' ')?;
-    let (b, w) = cut(rest, b' ')?;
-    if a.len() == 0 || b.len() == 0 || w.len() == 0 {
-        return None;
-    }
-    match cut(w, b' ') {
-        Some(_) => None,
-        None => Some((a, b, w)),
+    /// The place of the line.
+    pub(crate) fn place(&self) -> Place
+        ensures { result ≡ spot_of self.now }
+    {
+        Place::of(self.number, self.offset, self.bytes)
     }
 }
 
-/// The tokens of a line, or that it has not the form of a join.
-fn tokens<'t>(text: &'t [u8], line: usize, at: usize) -> Result<Parts<'t>, LineFault>
-    requires { (Lacks 10 text.now) × (at + length text.now < 2 ^ 64) }
-    ensures { MatchResult result (λ t. Tokens text.now line at t) (λ e. NoWords text.now × (e ≡ Misformed (spot line at text.now))) }
-{
-    match split(text) {
-        Some((a, b, w)) => {
-            let second = at + 5 + a.len() + 1;
-            let third = second + b.len() + 1;
-            Ok(Parts {
-                first: Token::Key {
-                    word: a,
-                    place: Place::of(line, at + 5, a),
-                },
-                second: Token::Key {
-                    word: b,
-                    place: Place::of(line, second, b),
-                },
-                weight: Token::Weight {
-                    word: w,
-                    place: Place::of(line, third, w),
-                },
-            })
+/// The lines of a text that are still to come, how many were passed, and where the next one begins.
+#[derive(Drop)]
+pub(crate) struct Lines<'t> {
+    rest: &'t [u8],
+    pub passed: usize,
+    offset: usize,
+    ghost within: { offset + length rest.now < 2 ^ 63 },
+    ghost counted: { passed ≤ offset },
+}
+
+impl<'t> Lines<'t> {
+    ghost use Rattle.std.specs.Prelude.{MatchResult};
+    ghost use Rattle.text.specs.Passing.{Passes, Next, Unended, Stuck};
+
+    /// All lines of a text.
+    pub(crate) fn of(text: &'t [u8]) -> Lines<'t>
+        ensures rest { result.rest.now ≡ text.now }
+        ensures passed { result.passed ≡ 0 }
+        ensures offset { result.offset ≡ 0 }
+    {
+        Lines {
+            rest: text,
+            passed: 0,
+            offset: 0,
         }
-        None => Err(LineFault::Misformed(Place::of(line, at, text))),
     }
-}
 
-/// The key that a key word spells.
-fn key_of<K: Spelled>(token: Token<'_>) -> Result<K, WordFault>
-    requires { IsKey token }
-    ensures { MatchResult result (λ k. K.Spelled.spelled k ≡ word_of token.entry) (λ e. NoKey K.Spelled.spelled (word_of token.entry) × (e ≡ Key Malformed (place_of token.entry))) }
-{
-    match token {
-        Token::Key { word, place } => match K::read(word) {
-            Ok(key) => Ok(key),
-            Err(refusal) => Err(WordFault::Key(refusal, place)),
-        },
-        Token::Weight { .. } => unreachable(),
+    /// Passes the next line, or refuses what has no end and passes nothing.
+    pub(crate) fn pass(&mut self) -> Result<Line<'t>, LineFault>
+        ensures { MatchResult result (Passes self.old self.new) (Unended self.old self.new) }
+    {
+        let number = self.passed + 1;
+        let offset = self.offset;
+        let Some((bytes, rest)) = cut(self.rest, b'\n') else {
+            return Err(LineFault::Misformed(Place::of(number, offset, self.rest)));
+        };
+        *self = Lines {
+            rest,
+            passed: number,
+            offset: offset + bytes.len() + 1,
+        };
+        Ok(Line {
+            bytes,
+            number,
+            offset,
+        })
     }
-}
 
-/// The weight that a weight word writes.
-fn weight_of(token: Token<'_>) -> Result<i32, WordFault>
-    requires { IsWeight token }
-    ensures { MatchResult result (λ z. Short z × (signed_decimal z ≡ word_of token.entry)) (λ e. NoWeight (word_of token.entry) × (e ≡ Weight (place_of token.entry))) }
-{
-    match token {
-        Token::Weight { word, place } => match weight(word) {
-            Some(z) => Ok(z),
-            None => Err(WordFault::Weight(place)),
-        },
-        Token::Key { .. } => unreachable(),
+    /// The same, unless the text is at its end.
+    pub(crate) fn next(&mut self) -> Result<Option<Line<'t>>, LineFault>
+        ensures { MatchResult result (Next self.old self.new) (Stuck self.old self.new) }
+    {
+        if self.rest.is_empty() {
+            return Ok(None);
+        }
+        self.pass().map(Some)
     }
-}
-
-/// The join that a line writes, or the first fault of the line: its form, then its words from left to right.
-pub(crate) fn read_join<K: Spelled>(text: &[u8], line: usize, at: usize) -> Result<Join<K>, Fault>
-    requires { (Lacks 10 text.now) × (at + length text.now < 2 ^ 64) }
-    ensures { MatchResult result (λ j. Joins K.Spelled.spelled text.now j) (λ f. ((F : List ℕ) → at ≡ length F → Wrong K.Spelled.spelled F text.now line f)) }
-{
-    let parts = tokens(text, line, at)?;
-    let first = key_of(parts.first)?;
-    let second = key_of(parts.second)?;
-    let weight = weight_of(parts.weight)?;
-    Ok(Join {
-        first,
-        second,
-        weight,
-    })
 }

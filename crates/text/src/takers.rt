@@ -1,9 +1,10 @@
 //! Joins, and what takes them.
-ghost use Rattle.std.specs.Prelude.{◌≡◌, ℕ, ◌≤◌, true, List, Option};
+ghost use Rattle.std.specs.Prelude.{◌≡◌, ℕ, true, List, Option};
 ghost use Rattle.text.specs.Joins.{Answers, Grows};
 ghost use Rattle.text.specs.Lines.{lacks};
 ghost use Rattle.text.specs.declared.takers.Join.{Join};
 
+use faults::JobRefusal;
 use keys::Spelled;
 
 /// Two nets by their keys, and the weight between them.
@@ -18,23 +19,12 @@ pub struct Join<K> {
 pub trait Headed {
     ghost header: { List ℕ };
 
-    /// It is one line.
-    ghost single: { lacks 10 header ≡ true };
-
     /// The first line, without its end.
     fn header() -> &'static [u8]
         ensures { result.now ≡ header };
-}
 
-/// A refusal of the job, which is known by its number.
-pub trait JobRefusal {
-    ghost numbered: { Self → ℕ };
-
-    /// The number.
-    fn number(&self) -> u8
-        ensures { result ≡ numbered self.now };
-
-    ghost within: { (e : Self) → (21 ≤ numbered e) × (numbered e ≤ 26) };
+    /// It is one line.
+    ghost single: { lacks 10 header ≡ true };
 }
 
 /// What takes joins one after the other, and may refuse one.

@@ -1,5 +1,5 @@
 //! Words of a text: where they end, and which weight one writes.
-ghost use Rattle.std.specs.Prelude.{◌≡◌, ℕ, ◌<◌, ◌≤◌, ◌∷◌, ◌++◌, length, decimal, MatchOption, ◌≢◌, slice_index};
+ghost use Rattle.std.specs.Prelude.{◌≡◌, ℕ, ◌<◌, ◌∷◌, ◌++◌, decimal, MatchOption, ◌≢◌};
 ghost use Rattle.std.specs.Fmt.{signed_decimal};
 ghost use Rattle.keys.specs.Words.{Lacks};
 ghost use Rattle.text.specs.Lines.{Short, NoWeight};
@@ -9,29 +9,12 @@ use keys::digits::natural;
 /// The greatest size of a weight that is read.
 const LARGEST: u64 = 9_999_999;
 
-/// The index of the first byte that equals `byte`, or the length.
-fn find(s: &[u8], byte: u8) -> usize
-    ensures within { result ≤ length s.now }
-    ensures before { (k : ℕ) → k < result → slice_index s.now k ≢ byte }
-    ensures found { result < length s.now → slice_index s.now result ≡ byte }
-{
-    for (i, x) in s.iter().enumerate() {
-        if *x == byte {
-            return i;
-        }
-    }
-    s.len()
-}
-
 /// What stands before the first `byte`, and what stands after it.
 pub(crate) fn cut<'t>(s: &'t [u8], byte: u8) -> Option<(&'t [u8], &'t [u8])>
     ensures { MatchOption result (Lacks byte s.now) (λ p. (s.now ≡ p.0.now ++ byte ∷ p.1.now) × Lacks byte p.0.now) }
 {
-    let n = find(s, byte);
-    if n == s.len() {
-        return None;
-    }
-    Some((&s[0..n], &s[n + 1..]))
+    let n = s.iter().position(|x| *x == byte)?;
+    Some((&s[..n], &s[n + 1..]))
 }
 
 /// The number of at most seven digits that a word writes.
@@ -49,13 +32,11 @@ fn size(word: &[u8]) -> Option<u32>
 pub(crate) fn weight(word: &[u8]) -> Option<i32>
     ensures { MatchOption result (NoWeight word.now) (λ z. Short z × (signed_decimal z ≡ word.now)) }
 {
-    if word.len() > 0 && word[0] == b'-' {
-        let n = size(&word[1..])?;
-        if n == 0 {
-            return None; // 0 has no sign
-        }
-        return Some(0 - n as i32);
+    match word.strip_prefix(b"-") {
+        Some(digits) => match size(digits)? {
+            0 => None, // 0 has no sign
+            n => Some(-(n as i32)),
+        },
+        None => Some(size(word)? as i32),
     }
-    let n = size(word)?;
-    Some(n as i32)
 }

@@ -4,9 +4,10 @@ ghost use Rattle.text.specs.Joins.{Answers, Grows};
 ghost use Rattle.trials.specs.Desk.{reason_number, Holds, ruled};
 ghost use Rattle.std.proofs.Common.{rules};
 
+use faults::JobRefusal;
 use keys::Key;
 use keys::name::NameKey;
-use text::takers::{JobRefusal, Join, Taker};
+use text::takers::{Join, Taker};
 
 /// The most joins that are taken.
 const ROOM: u8 = 2;

@@ -10,8 +10,8 @@ pub returns : goal.returns
 returns g c =
     let s = setting g.T.Key.Spelled.spelled g.T.Key.Headed.header g.T.Taker.rule g.T.Refusal.JobRefusal.numbered in
     let text = c.args.text.now in
-    let told = c.read_through.ensures.told in
-    let one : OneOutcome s text = one_outcome s g.met.T.Key.Spelled.word g.met.T.Key.Spelled.apart (lacks_by 10 g.T.Key.Headed.header g.T.Key.Headed.single) text in
+    let told = c.read_through.ensures in
+    let one : OneOutcome s text = one_outcome s g.met.T.Key.Spelled.word g.met.T.Key.Spelled.apart (lacks_by 10 g.T.Key.Headed.header g.met.T.Key.Headed.single) text in
     record {
       told = told;
       one = one;
