@@ -1,6 +1,7 @@
 //! A fault: its layer, its number and its place, and the line that shows it.
 ghost use Rattle.std.specs.Prelude.{◌≡◌, Some};
-ghost use Rattle.faults.specs.Faults.{spot, layer_word, fault_text};
+ghost use Rattle.faults.specs.Faults.{spot, fault, layer_word, fault_text};
+ghost use Rattle.faults.specs.declared.places.Layer.TheVariants.{Text};
 
 use std::fmt;
 
@@ -12,8 +13,8 @@ pub enum Layer {
     Steps,
 }
 
-/// The line or record, from 1, and the bytes of it that are meant.
-#[derive(Clone, Copy, PartialEq, Eq, Debug)]
+/// The line or record, from 1, and the bytes of it that are meant; all 0 where a whole file is.
+#[derive(Clone, Copy, PartialEq, Eq, Debug, Default)]
 pub struct Place {
     pub line: usize,
     pub offset: usize,
@@ -37,8 +38,22 @@ impl Place {
 #[derive(Clone, Copy, PartialEq, Eq, Debug)]
 pub struct Fault {
     pub layer: Layer,
+    // a number and no enum: refusals of takers and of steps are types of their own, of which only this is known here
     pub number: u8,
     pub place: Place,
+}
+
+impl Fault {
+    /// A refusal of the board text.
+    pub(crate) fn of_text(number: u8, place: Place) -> Fault
+        ensures { result ≡ fault Text number place }
+    {
+        Fault {
+            layer: Layer::Text,
+            number,
+            place,
+        }
+    }
 }
 
 impl fmt::Display for Layer {

@@ -47,15 +47,7 @@ impl From<SizeFault> for Fault {
 
     fn from(e: SizeFault) -> Fault {
         match e {
-            SizeFault::TooLong => Fault {
-                layer: Layer::Text,
-                number: 14,
-                place: Place {
-                    line: 0,
-                    offset: 0,
-                    length: 0,
-                },
-            },
+            SizeFault::TooLong => Fault::of_text(14, Place::default()),
         }
     }
 }
@@ -65,11 +57,7 @@ impl From<LineFault> for Fault {
 
     fn from(e: LineFault) -> Fault {
         match e {
-            LineFault::Misformed(place) => Fault {
-                layer: Layer::Text,
-                number: 11,
-                place,
-            },
+            LineFault::Misformed(place) => Fault::of_text(11, place),
         }
     }
 }
@@ -79,16 +67,8 @@ impl From<WordFault> for Fault {
 
     fn from(e: WordFault) -> Fault {
         match e {
-            WordFault::Key(refusal, place) => Fault {
-                layer: Layer::Text,
-                number: refusal.number(),
-                place,
-            },
-            WordFault::Weight(place) => Fault {
-                layer: Layer::Text,
-                number: 13,
-                place,
-            },
+            WordFault::Key(refusal, place) => Fault::of_text(refusal.number(), place),
+            WordFault::Weight(place) => Fault::of_text(13, place),
         }
     }
 }

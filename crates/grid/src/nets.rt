@@ -45,6 +45,7 @@ impl From<Net> for u8 {
     ghost from_gives = { λ v number. number ≡ v.index + 1 };
 
     fn from(v: Net) -> u8 {
+        // `as` is proved to lose nothing; `try_from` would add a refusal that cannot come
         v.index as u8 + 1
     }
 }

@@ -13,6 +13,7 @@ pub const LIMIT: i64 = 100_000_000;
 #[derive(Clone, Copy, PartialEq, Eq)]
 pub struct Kernel {
     pub(crate) nets: usize,
+    // a place for every net that a board may have: a board is copied, and asks for no memory as it grows
     pub(crate) standing: [bool; NETS],
     pub(crate) weights: Matrix,
     pub(crate) sizes: i64,

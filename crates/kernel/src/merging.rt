@@ -10,6 +10,7 @@ use cuts::Tie;
 use grid::Net;
 use grid::nets::NETS;
 
+// v, u and tie stay apart: a struct of the three would be taken to pieces again by every definition that a clause names
 impl Kernel {
     /// The weight of `u` and `other` once `v` has been merged into `u`.
     fn grown_weight(&self, v: Net, u: Net, other: Net, tie: Tie) -> i32

@@ -56,6 +56,7 @@ pub enum KeyRefusal {
 
 impl KeyRefusal {
     /// The number by which the refusal is known.
+    // no `From`: `u8::from` would not say that it is the number, which every refusal gives under this name
     pub fn number(self) -> u8
         ensures { result ≡ key_number self }
     {

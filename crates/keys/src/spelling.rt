@@ -10,6 +10,7 @@ pub const ROOM: usize = 12;
 /// At most 12 bytes; what lies past them is 0, so that equal words are equal values.
 #[derive(Clone, Copy, PartialEq, Eq, Debug)]
 pub struct Spelling {
+    // held in place: a key is copied, and asks for no memory
     bytes: [u8; ROOM],
     len: u8,
 }
@@ -60,6 +61,7 @@ impl Spelling {
         bytes[..word.len()].copy_from_slice(word);
         Spelling {
             bytes,
+            // `as` is proved to lose nothing; `try_from` would add a refusal that cannot come
             len: word.len() as u8,
         }
     }

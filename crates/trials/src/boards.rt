@@ -105,24 +105,27 @@ pub(crate) fn built(nets: u8, pairs: &[(u8, u8, i32)]) -> Option<Kernel> {
     Some(kernel)
 }
 
-/// The bits of a split that is written as a side for each net.
+/// Whether each net is on B in a split that is written as a side for each net.
+fn on_b(sides: &str) -> [bool; NETS] {
+    let mut on_b = [false; NETS];
+    for (place, side) in on_b.iter_mut().zip(sides.as_bytes()) {
+        *place = *side == b'B';
+    }
+    on_b
+}
+
+/// The same in bits.
 pub(crate) fn masked(sides: &str) -> Mask {
     let mut bits: u128 = 0;
-    for (i, side) in sides.as_bytes().iter().take(NETS).enumerate() {
-        if *side == b'B' {
-            bits |= 1 << i;
-        }
+    for (index, on_b) in on_b(sides).iter().enumerate() {
+        bits |= u128::from(*on_b) << index;
     }
     Mask { bits }
 }
 
-/// The bytes of a split that is written as a side for each net.
+/// The same in bytes.
 pub(crate) fn sheet(sides: &str) -> [u8; NETS] {
-    let mut bytes = [0; NETS];
-    for (byte, side) in bytes.iter_mut().zip(sides.as_bytes()) {
-        *byte = u8::from(*side == b'B');
-    }
-    bytes
+    on_b(sides).map(u8::from)
 }
 
 /// Whether two nets are on different sides.
