@@ -8,7 +8,7 @@ use Rattle.cuts.proofs.Sizes.{sizes_row, merged_sizes, merged_lighter, sizes_nat
 use Rattle.kernel.specs.Arrays.{board_in}
 use Rattle.kernel.specs.Views.{view}
 use Rattle.kernel.proofs.Boards.{put_merged, remerged}
-use Rattle.kernel.proofs.Cases.{merge_done, merge_exact, merge_refused}
+use Rattle.kernel.proofs.Cases.{merge_done, merge_exact}
 use Rattle.kernel.proofs.Totals.{replaced}
 use Rattle.kernel.proofs.board.Kernel.merge.Goals as goal
 
@@ -42,11 +42,6 @@ invariant_of-self c =
       counted = total;
       light = omega (arith, ints, k.light, k.counted);
     }
-
-pub returns-then-not-are_two : goal.returns-then-not-are_two
-returns-then-not-are_two c =
-    let r = merge_refused c.args.tie c.args.v.index c.args.u.index (view c.args.self.now) (sym c.if-not-are_two.ensures) in
-    record { answer = r.0; board = r.1; exact = r.2 }
 
 pub returns : goal.returns
 returns c =
