@@ -64,7 +64,9 @@ impl<K: Spelled + Headed> Taker for Census<K> {
         ensures grows { Grows {J = Join K} (Counted self.old.joins self.old.sizes) (Counted self.new.joins self.new.sizes) join result }
     {
         self.joins = self.joins.saturating_add(1);
-        self.sizes = self.sizes.saturating_add(join.weight.unsigned_abs() as u64);
+        self.sizes = self
+            .sizes
+            .saturating_add(u64::from(join.weight.unsigned_abs()));
         Ok(())
     }
 }

@@ -74,6 +74,8 @@ fn tokens<'t>(line: &Line<'t>) -> Result<Parts<'t>, LineFault>
     })
 }
 
+// `key_of` and `weight_of` stay two: the kinds of token are read by different calls and refused as different faults,
+// and what they share is the one line that takes the token apart
 /// The key that a key word spells.
 fn key_of<K: Spelled>(token: Token<'_>) -> Result<K, WordFault>
     requires { IsKey token }

@@ -7,8 +7,8 @@ pub returns : goal.returns
 returns g c =
     let before = c.args.self.now in
     let fits : SFits w32 c.args.join.weight = search rules in
-    let size : c.unsigned_abs.result ≡ nat_abs c.args.join.weight = c.unsigned_abs.ensures.value ∙ ap nat_abs (to_z-of_z w32 c.args.join.weight fits) in
-    let sum : c.saturating_add-self-2.result ≡ min (before.sizes + c.unsigned_abs.result) (2 ^ 64 - 1) = c.saturating_add-self-2.ensures in
+    let size : c.from.result ≡ nat_abs c.args.join.weight = c.from.ensures ∙ c.unsigned_abs.ensures.value ∙ ap nat_abs (to_z-of_z w32 c.args.join.weight fits) in
+    let sum : c.saturating_add-self-2.result ≡ min (before.sizes + c.from.result) (2 ^ 64 - 1) = c.saturating_add-self-2.ensures in
     record {
       accepts = refl;
       answers = λ js h. refl;
