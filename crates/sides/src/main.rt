@@ -1,6 +1,8 @@
 //! Prints what the board text in `board.txt` holds, or its first fault.
 #![tactic(auto)]
 
+ghost use Rattle.std.specs.Prelude.{◌≡◌, take, IfOk, IfSome};
+
 use anyhow::anyhow;
 use arrayvec::ArrayVec;
 use std::fs::File;
@@ -12,16 +14,23 @@ use text::reader::LIMIT;
 /// One byte more than a text may have, so that a longer one is told.
 const ROOM: usize = LIMIT + 1;
 
-/// As much of a file as there is room for.
-fn fill(rt: &HostRuntime, path: &str) -> io::Result<ArrayVec<u8, ROOM>> {
+/// As much of what is read as there is room for.
+fn fill<R: Read + Drop>(reader: R) -> io::Result<ArrayVec<u8, ROOM>>
+    ensures { IfOk result (λ bytes. IfSome (R.remaining reader) (λ xs. bytes.items ≡ take 60001 xs)) }
+{
     let mut bytes = ArrayVec::new();
-    io::copy(&mut File::open(rt, path)?.take(ROOM as u64), &mut bytes)?;
+    io::copy(&mut reader.take(ROOM as u64), &mut bytes)?;
     Ok(bytes)
+}
+
+/// The text of the board.
+fn load(rt: &HostRuntime) -> io::Result<ArrayVec<u8, ROOM>> {
+    fill(File::open(rt, "board.txt")?)
 }
 
 fn main(rt: HostRuntime) -> anyhow::Result<()> {
     // a file that cannot be read counts as empty
-    let text = fill(&rt, "board.txt").unwrap_or_default();
+    let text = load(&rt).unwrap_or_default();
     match summarize(&text) {
         Ok(summary) => {
             println!(rt; "{summary}")?;
