@@ -4,4 +4,3 @@ pub mod Tokens
 pub mod Boards
 pub mod Pieces
 pub mod Passing
-pub mod Readings

@@ -1,9 +1,9 @@
 //! The reader of a board text.
 ghost use Rattle.std.specs.Prelude.{◌≡◌, ◌<◌, ◌≤◌, List, length, Decides, MatchResult};
-ghost use Rattle.text.specs.Boards.{Begins, setting, Told};
+ghost use Rattle.text.specs.Boards.{Begins, setting, Told, Complete, OneList, OneOutcome};
 ghost use Rattle.text.specs.Joins.{handed, Grows};
 ghost use Rattle.text.specs.Passing.{AfterHeader, Headless};
-ghost use Rattle.text.specs.Readings.{Reads};
+ghost use Rattle.text.specs.Pieces.{NamedIn};
 
 use crate::lines::Lines;
 use crate::takers::{Headed, Join, Taker};
@@ -71,7 +71,11 @@ fn read_through<T: Taker>(text: &[u8], taker: &mut T) -> Result<usize, Fault>
 
 /// Reads a text and hands on its joins one after the other, up to the first fault; answers how many joins it has.
 pub fn read<T: Taker>(text: &[u8], taker: &mut T) -> Result<usize, Fault>
-    ensures { Reads (setting T.Key.spelled T.Key.header T.rule T.Refusal.numbered) (T.taken taker.old) (T.taken taker.new) text.now result }
+    ensures told { Told (setting T.Key.spelled T.Key.header T.rule T.Refusal.numbered) (T.taken taker.old) (T.taken taker.new) text.now result }
+    ensures one { OneOutcome (setting T.Key.spelled T.Key.header T.rule T.Refusal.numbered) text.now }
+    ensures complete { Complete (setting T.Key.spelled T.Key.header T.rule T.Refusal.numbered) (T.taken taker.old) (T.taken taker.new) text.now result }
+    ensures unique { OneList T.Key.spelled T.Key.header text.now }
+    ensures named { NamedIn T.Key.spelled (T.taken taker.old) text.now result }
 {
     read_through(text, taker)
 }
