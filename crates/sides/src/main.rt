@@ -23,14 +23,11 @@ fn fill<R: Read + Drop>(reader: R) -> io::Result<ArrayVec<u8, ROOM>>
     Ok(bytes)
 }
 
-/// The text of the board.
-fn load(rt: &HostRuntime) -> io::Result<ArrayVec<u8, ROOM>> {
-    fill(File::open(rt, "board.txt")?)
-}
-
 fn main(rt: HostRuntime) -> anyhow::Result<()> {
     // a file that cannot be read counts as empty
-    let text = load(&rt).unwrap_or_default();
+    let text = File::open(&rt, "board.txt")
+        .and_then(fill)
+        .unwrap_or_default();
     match summarize(&text) {
         Ok(summary) => {
             println!(rt; "{summary}")?;
