@@ -29,6 +29,7 @@ pub trait JobRefusal {
     ghost numbered: { Self → ℕ };
 
     /// The number.
+    // no `From`: `u8::from` would not say that it is the number; every refusal gives it under this name
     fn number(&self) -> u8
         ensures { result ≡ numbered self.now };
 

@@ -14,6 +14,7 @@ pub trait Key: Copy {
     ghost home: { Self → ℕ };
 
     /// Whether two keys are the same net.
+    // no `PartialEq`: keys of one net need not be equal, as names in other letters are not
     fn is_same(&self, other: &Self) -> bool
         ensures { result ≡ same self.now other.now };
 
@@ -56,7 +57,7 @@ pub enum KeyRefusal {
 
 impl KeyRefusal {
     /// The number by which the refusal is known.
-    // no `From`: `u8::from` would not say that it is the number, which every refusal gives under this name
+    // no `From`: `u8::from` would not say that it is the number; every refusal gives it under this name
     pub fn number(self) -> u8
         ensures { result ≡ key_number self }
     {

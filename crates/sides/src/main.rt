@@ -19,6 +19,7 @@ fn fill<R: Read + Drop>(reader: R) -> io::Result<ArrayVec<u8, ROOM>>
     ensures { IfOk result (λ bytes. IfSome (R.remaining reader) (λ xs. bytes.items ≡ take 60001 xs)) }
 {
     let mut bytes = ArrayVec::new();
+    // `as` is proved to lose nothing, and a `usize` has no `From` to `u64`
     io::copy(&mut reader.take(ROOM as u64), &mut bytes)?;
     Ok(bytes)
 }

@@ -70,6 +70,7 @@ fn read_through<T: Taker>(text: &[u8], taker: &mut T) -> Result<usize, Fault>
 }
 
 /// Reads a text and hands on its joins one after the other, up to the first fault; answers how many joins it has.
+// the setting stands in three clauses: as one fact for all five, the contract would no longer name its theorems
 pub fn read<T: Taker>(text: &[u8], taker: &mut T) -> Result<usize, Fault>
     ensures told { Told (setting T.Key.spelled T.Key.header T.rule T.Refusal.numbered) (T.taken taker.old) (T.taken taker.new) text.now result }
     ensures one { OneOutcome (setting T.Key.spelled T.Key.header T.rule T.Refusal.numbered) text.now }

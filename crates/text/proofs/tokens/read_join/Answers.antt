@@ -6,12 +6,6 @@ use Rattle.text.specs.Tokens.{misformed}
 use Rattle.text.proofs.Wrongs.{first_wrong, second_wrong, weight_wrong}
 use Rattle.text.proofs.tokens.read_join.Goals as goal
 
-pub returns-in_err-parts : goal.returns-in_err-parts
-returns-in_err-parts g c =
-    let p = err_from_is_err_and c.from_residual.result c.from_residual.ensures.1 in
-    let e = c.in_err-parts.ensures in
-    rw p.1 (λ F begins. misformed e.0 (p.2 ∙ ap of_line e.1 ∙ ap (λ o. of_line (Misformed (spot c.args.line.now.number o c.args.line.now.bytes.now))) begins))
-
 pub returns-in_err-first : goal.returns-in_err-first
 returns-in_err-first g c =
     let p = err_from_is_err_and c.from_residual-in_err-first.result c.from_residual-in_err-first.ensures.1 in
