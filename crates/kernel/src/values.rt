@@ -17,7 +17,7 @@ impl Kernel {
         let side = split.on_b(v);
         sum_of(v.index, |u| {
             if split.on_b(u) != side {
-                i64::from(self.weight(u, v))
+                i64::from(self.weight(v, u))
             } else {
                 0
             }
