@@ -6,19 +6,19 @@ use crate::places::{Fault, Layer, Place};
 use keys::KeyRefusal;
 
 /// A text that is not read.
-#[derive(Clone, Copy)]
+#[derive(Clone, Copy, PartialEq, Eq, Debug)]
 pub enum SizeFault {
     TooLong,
 }
 
 /// A line that is not of its form.
-#[derive(Clone, Copy)]
+#[derive(Clone, Copy, PartialEq, Eq, Debug)]
 pub enum LineFault {
     Misformed(Place),
 }
 
 /// A word that spells no key, or writes no weight.
-#[derive(Clone, Copy)]
+#[derive(Clone, Copy, PartialEq, Eq, Debug)]
 pub enum WordFault {
     Key(KeyRefusal, Place),
     Weight(Place),
@@ -29,7 +29,7 @@ pub trait JobRefusal {
     ghost numbered: { Self → ℕ };
 
     /// The number.
-    // no `From`: `u8::from` would not say that it is the number; every refusal gives it under this name
+    // no `From`: `u8::from` would not say that it is the number of the refusal
     fn number(&self) -> u8
         ensures { result ≡ numbered self.now };
 
@@ -37,7 +37,7 @@ pub trait JobRefusal {
 }
 
 /// A join that was not taken, and its line.
-#[derive(Drop)]
+#[derive(Clone, Copy, Drop)]
 pub struct JoinFault<R> {
     pub refusal: R,
     pub place: Place,

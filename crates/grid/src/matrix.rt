@@ -18,6 +18,7 @@ pub fn weight_size(weight: i32) -> i64
 }
 
 /// The weight of each pair, in a row for each of its nets.
+// no `Model`: what clauses see of it is a function, and the checker takes no function as a model's value
 #[derive(Clone, Copy, PartialEq, Eq)]
 pub struct Matrix {
     rows: [[i32; NETS]; NETS],
@@ -25,6 +26,7 @@ pub struct Matrix {
     ghost wide: { Wide rows },
 }
 
+// v and u stay apart: every definition that a clause names takes the two by themselves
 impl Matrix {
     ghost use Rattle.grid.specs.Matrices.{weight_in};
 

@@ -12,6 +12,7 @@ pub struct Net {
 }
 
 /// The first net.
+// by hand: the language derives no `Default` for a struct with a ghost field
 impl Default for Net {
     ghost is_default = { λ v. v.index ≡ 0 };
 
@@ -32,7 +33,7 @@ impl TryFrom<u8> for Net {
     ghost try_from_gives = { Numbers };
 
     fn try_from(number: u8) -> Result<Net, NoNet> {
-        if number == 0 || number > 120 {
+        if number == 0 || usize::from(number) > NETS {
             return Err(NoNet(number));
         }
         Ok(Net {

@@ -10,10 +10,11 @@ use grid::nets::NETS;
 pub const LIMIT: i64 = 100_000_000;
 
 /// A board of at most 120 nets: which of them stand, the weight of each pair, and the sum of the weights' sizes.
+// no `Model`: its view has functions, and the checker takes no function in a model's value
 #[derive(Clone, Copy, PartialEq, Eq)]
 pub struct Kernel {
     pub(crate) nets: usize,
-    // a place for every net that a board may have: a board is copied, and asks for no memory as it grows
+    // no `Vec`, and no `ArrayVec`, which is not `Copy`: a board is copied, and asks for no memory as it grows
     pub(crate) standing: [bool; NETS],
     pub(crate) weights: Matrix,
     pub(crate) sizes: i64,

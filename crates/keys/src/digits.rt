@@ -18,6 +18,7 @@ pub fn natural(word: &[u8]) -> Option<u64>
     if word[0] == b'0' && word.len() > 1 {
         return None;
     }
+    // no `parse`: it wants a `&str`, and takes a plus and leading zeros, which are refused here
     let mut n = 0;
     for b in word {
         if !b.is_ascii_digit() {

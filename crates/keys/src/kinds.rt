@@ -57,7 +57,7 @@ pub enum KeyRefusal {
 
 impl KeyRefusal {
     /// The number by which the refusal is known.
-    // no `From`: `u8::from` would not say that it is the number; every refusal gives it under this name
+    // no `From`: `u8::from` would not say that it is the number of the refusal
     pub fn number(self) -> u8
         ensures { result ≡ key_number self }
     {

@@ -30,7 +30,7 @@ impl TryFrom<u64> for NumberKey {
         if !(1..=LAST).contains(&n) {
             return Err(KeyRefusal::Malformed);
         }
-        // `as` is proved to lose nothing; `try_from` would add a refusal that cannot come
+        // `as` is proved to lose nothing; `try_from` would test the limit again
         Ok(NumberKey { value: n as u32 })
     }
 }

@@ -10,7 +10,7 @@ pub const ROOM: usize = 12;
 /// At most 12 bytes; what lies past them is 0, so that equal words are equal values.
 #[derive(Clone, Copy, PartialEq, Eq, Debug)]
 pub struct Spelling {
-    // held in place: a key is copied, and asks for no memory
+    // no `Vec`, and no `ArrayVec`, which is not `Copy`: a key is copied, and asks for no memory
     bytes: [u8; ROOM],
     len: u8,
 }

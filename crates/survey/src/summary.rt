@@ -33,7 +33,7 @@ pub struct Summary {
 
 /// The summary of a text that is read as a board of these keys.
 fn summed<K: Spelled + Headed>(text: &[u8], kind: Kind) -> Result<Summary, Fault>
-    ensures { Summed K.Spelled.spelled K.Headed.header kind text.now result }
+    ensures { Summed K.spelled K.header kind text.now result }
 {
     let mut census = Census::<K>::new();
     read(text, &mut census)?;

@@ -75,6 +75,7 @@ impl<'t> Lines<'t> {
     }
 
     /// The same, unless the text is at its end.
+    // no `Iterator`: one that goes on after an error has no end, and the lines passed are counted afterwards
     pub(crate) fn next(&mut self) -> Result<Option<Line<'t>>, LineFault>
         ensures { MatchResult result (Next self.old self.new) (Stuck self.old self.new) }
     {

@@ -66,11 +66,12 @@ fn read_through<T: Taker>(text: &[u8], taker: &mut T) -> Result<usize, Fault>
         let join = read_join(&line)?;
         hand_on(taker, join, line.place())?;
     }
-    Ok(lines.passed - 1)
+    Ok(lines.passed - 1) // the header is no join
 }
 
 /// Reads a text and hands on its joins one after the other, up to the first fault; answers how many joins it has.
-// the setting stands in three clauses: as one fact for all five, the contract would no longer name its theorems
+// the setting stands in three clauses: one fact for all five would name no theorem here, and a definition over the taker
+// does not reach the members of its key
 pub fn read<T: Taker>(text: &[u8], taker: &mut T) -> Result<usize, Fault>
     ensures told { Told (setting T.Key.spelled T.Key.header T.rule T.Refusal.numbered) (T.taken taker.old) (T.taken taker.new) text.now result }
     ensures one { OneOutcome (setting T.Key.spelled T.Key.header T.rule T.Refusal.numbered) text.now }

@@ -25,7 +25,7 @@ fn size(word: &[u8]) -> Option<u32>
     if n > LARGEST {
         return None;
     }
-    // `as` is proved to lose nothing; `try_from` would add a refusal that cannot come
+    // `as` is proved to lose nothing; `try_from` would test the limit again
     Some(n as u32)
 }
 
@@ -33,7 +33,7 @@ fn size(word: &[u8]) -> Option<u32>
 pub(crate) fn weight(word: &[u8]) -> Option<i32>
     ensures { MatchOption result (NoWeight word.now) (λ z. Short z × (signed_decimal z ≡ word.now)) }
 {
-    // `as` is proved to lose nothing; `try_from` would add a refusal that cannot come
+    // `as` is proved to lose nothing; `try_from` would test the limit again
     match word.strip_prefix(b"-") {
         Some(digits) => match size(digits)? {
             0 => None, // 0 has no sign

@@ -106,7 +106,7 @@ pub(crate) fn built(nets: u8, pairs: &[(u8, u8, i32)]) -> Option<Kernel> {
 }
 
 /// Whether each net is on B in a split that is written as a side for each net.
-fn on_b(sides: &str) -> [bool; NETS] {
+fn sides_on_b(sides: &str) -> [bool; NETS] {
     let mut on_b = [false; NETS];
     for (place, side) in on_b.iter_mut().zip(sides.as_bytes()) {
         *place = *side == b'B';
@@ -117,7 +117,7 @@ fn on_b(sides: &str) -> [bool; NETS] {
 /// The same in bits.
 pub(crate) fn masked(sides: &str) -> Mask {
     let mut bits: u128 = 0;
-    for (index, on_b) in on_b(sides).iter().enumerate() {
+    for (index, on_b) in sides_on_b(sides).iter().enumerate() {
         bits |= u128::from(*on_b) << index;
     }
     Mask { bits }
@@ -125,7 +125,7 @@ pub(crate) fn masked(sides: &str) -> Mask {
 
 /// The same in bytes.
 pub(crate) fn sheet(sides: &str) -> [u8; NETS] {
-    on_b(sides).map(u8::from)
+    sides_on_b(sides).map(u8::from)
 }
 
 /// Whether two nets are on different sides.
@@ -149,7 +149,11 @@ fn defined(pairs: &[(u8, u8, i32)], split: Mask) -> i64 {
 /// The split with one net on the side of another, or on the other side.
 fn lifted(split: Mask, v: Net, u: Net, tie: Tie) -> Mask {
     let bit = 1 << v.index;
-    if split.on_b(u) != (tie == Tie::Opposed) {
+    let on_b = match tie {
+        Tie::Joined => split.on_b(u),
+        Tie::Opposed => !split.on_b(u),
+    };
+    if on_b {
         Mask {
             bits: split.bits | bit,
         }

@@ -30,6 +30,7 @@ fn tell(rt: &impl Abort, heap: Global, cases: &[(&str, &str, &str)]) -> Result<(
     Ok(())
 }
 
+// one test to a table, so that a failure names its table
 #[test]
 fn headers(rt: HostRuntime) -> Result<(), Fail> {
     tell(&rt, rt.alloc(), &HEADERS)
@@ -189,27 +190,27 @@ fn names(rt: HostRuntime) -> Result<(), Fail> {
     Ok(())
 }
 
-#[test]
-fn spellings(rt: HostRuntime) -> Result<(), Fail> {
-    for word in ["a", "Gnd", "abcdefghijkl", "_", "007"] {
-        let key = NameKey::read(word.as_bytes())?;
+/// Words that spell keys, which spell them again.
+fn respell<K: Spelled>(rt: &impl Abort, words: &[&str]) -> Result<(), Fail> {
+    for word in words {
+        let key = K::read(word.as_bytes())?;
         assert_eq!(rt;
             reread(&key)?.spelling().bytes(),
             word.as_bytes(),
             "{}",
-            word
-        );
-    }
-    for word in ["1", "9", "10", "99", "100", "999999999", "123456789"] {
-        let key = NumberKey::read(word.as_bytes())?;
-        assert_eq!(rt;
-            reread(&key)?.spelling().bytes(),
-            word.as_bytes(),
-            "{}",
-            word
+            *word
         );
     }
     Ok(())
+}
+
+#[test]
+fn spellings(rt: HostRuntime) -> Result<(), Fail> {
+    respell::<NameKey>(&rt, &["a", "Gnd", "abcdefghijkl", "_", "007"])?;
+    respell::<NumberKey>(
+        &rt,
+        &["1", "9", "10", "99", "100", "999999999", "123456789"],
+    )
 }
 
 #[test]

@@ -1,8 +1,4 @@
-use Rattle.std.proofs.Common.{ap, ◌∙◌}
 use Rattle.std.proofs.lemmas.Result.{err_from_is_err_and}
-use Rattle.faults.specs.Faults.{of_line, spot}
-use Rattle.faults.specs.declared.refusals.LineFault.TheVariants.{Misformed}
-use Rattle.text.specs.Tokens.{misformed}
 use Rattle.text.proofs.Wrongs.{first_wrong, second_wrong, weight_wrong}
 use Rattle.text.proofs.tokens.read_join.Goals as goal
 
