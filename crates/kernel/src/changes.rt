@@ -75,6 +75,7 @@ impl Kernel {
     }
 
     /// Removes a net that has no connections, and tells whether it was one.
+    // a `bool`, as of a set's `remove`: an error would be one case that says no more
     pub fn remove(&mut self, v: Net) -> bool
         ensures answer { result ≡ removable v.index (view self.old) }
         ensures board { view self.new ≡ after_removing v.index (view self.old) }
