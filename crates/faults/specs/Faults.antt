@@ -38,8 +38,8 @@ abbrev pub of_word : WordFault → Fault
 of_word (Key e p) = fault Text (key_number e) p
 of_word (Weight p) = fault Text 13 p
 
-abbrev pub of_join : {R : Type 0} → (R → ℕ) → JoinFault R → Fault
-of_join numbered e = fault Job (numbered e.refusal) e.place
+abbrev pub of_join : JoinFault → Fault
+of_join e = fault Job e.number e.place
 
 -- the numbers of each layer
 abbrev pub Layered : Layer → ℕ → Type 0

@@ -36,10 +36,11 @@ pub trait JobRefusal {
     ghost within: { (e : Self) → (21 ≤ numbered e) × (numbered e ≤ 26) };
 }
 
-/// A join that was not taken, and its line.
-#[derive(Clone, Copy, Drop)]
-pub struct JoinFault<R> {
-    pub refusal: R,
+/// A join that was not taken, by the number of its refusal, and its line.
+// a number and no refusal: with one it would be `Copy` as that is, and of the numbers 21 to 26 alone
+#[derive(Clone, Copy, PartialEq, Eq, Debug)]
+pub struct JoinFault {
+    pub number: u8,
     pub place: Place,
 }
 
@@ -74,13 +75,13 @@ impl From<WordFault> for Fault {
     }
 }
 
-impl<R: JobRefusal + Drop> From<JoinFault<R>> for Fault {
-    ghost from_gives = { λ e f. f ≡ of_join R.numbered e };
+impl From<JoinFault> for Fault {
+    ghost from_gives = { λ e f. f ≡ of_join e };
 
-    fn from(e: JoinFault<R>) -> Fault {
+    fn from(e: JoinFault) -> Fault {
         Fault {
             layer: Layer::Job,
-            number: e.refusal.number(),
+            number: e.number,
             place: e.place,
         }
     }

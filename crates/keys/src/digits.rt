@@ -1,5 +1,5 @@
 //! Numbers in decimal digits, without a leading 0.
-ghost use Rattle.std.specs.Prelude.{◌≡◌, ℕ, ◌^◌, ◌<◌, decimal, MatchOption, ◌≢◌};
+ghost use Rattle.std.specs.Prelude.{◌≡◌, ℕ, ◌^◌, ◌<◌, ◌≤◌, length, decimal, MatchOption, ◌≢◌};
 
 use crate::spelling::Spelling;
 use itoa::Buffer;
@@ -32,7 +32,8 @@ pub fn natural(word: &[u8]) -> Option<u64>
 /// A number below 10 ^ 12, in decimal digits.
 pub(crate) fn written(n: u64) -> Spelling
     requires { n < 10 ^ 12 }
-    ensures { result ≡ decimal n }
+    ensures word { result ≡ decimal n }
+    ensures short { length result ≤ 12 }
 {
     let mut buffer = Buffer::new();
     Spelling::copied(buffer.format(n).as_bytes())

@@ -1,5 +1,5 @@
 //! What a kind of key is: when two keys are the same net, where the search for a key begins, and how a key is written.
-ghost use Rattle.std.specs.Prelude.{◌≡◌, ℕ, Bool, true, List, Ok};
+ghost use Rattle.std.specs.Prelude.{◌≡◌, ℕ, ◌≤◌, Bool, true, List, length, Ok};
 ghost use Rattle.keys.specs.Keys.{key_number, ReadAs};
 ghost use Rattle.keys.specs.Words.{Word};
 
@@ -42,7 +42,8 @@ pub trait Spelled: Copy {
 
     /// The word that spells the key.
     fn spelling(&self) -> Spelling
-        ensures { result ≡ spelled self.now };
+        ensures word { result ≡ spelled self.now }
+        ensures short { length result ≤ 12 };
 
     ghost word: { (k : Self) → Word (spelled k) };
 

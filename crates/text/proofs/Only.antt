@@ -177,7 +177,7 @@ module _ {K R : Type 0} (s : Setting K R) (word : (k : K) → Word (s.spelled k)
       let one : j ≡ j' = joins_only s.spelled word apart L' j j' (subst (λ l. Joins s.spelled l j) p.0 joins) joins' in
       let both : Some x ≡ Some x' = sym told ∙ ap (s.rule taken) one ∙ told' in
       let same_x : x ≡ x' = cc in
-      e ∙ ap (λ y. Err (of_join s.numbered (record { refusal = y; place = placed (n + 2) F L }))) same_x ∙ ap (λ l. Err (of_join s.numbered (record { refusal = x'; place = placed (n + 2) F l }))) p.0 ∙ sym e'
+      e ∙ ap (λ y. Err (of_join (record { number = s.numbered y; place = placed (n + 2) F L }))) same_x ∙ ap (λ l. Err (of_join (record { number = s.numbered x'; place = placed (n + 2) F l }))) p.0 ∙ sym e'
 
   module _ (single : Lacks 10 s.header) (text : List ℕ) where
     headed : (js : List (Join K)) (rest : List ℕ) → text ≡ written s.spelled s.header js ++ rest → text ≡ s.header ++ 10 ∷ (flat_map (line_of s.spelled) js ++ rest)

@@ -91,13 +91,13 @@ header_decided header text single (Err e) h = (λ is. absurd (false≢true is), 
 
 -- what an answer says of the reason for it
 module _ {R : Type 0} where
-  pub handed_ok : (p : Place) (o : Option R) → Ok tt ≡ handed p o → o ≡ None
-  handed_ok p None e = refl
-  handed_ok p (Some x) e = cc
+  pub handed_ok : (numbered : R → ℕ) (p : Place) (o : Option R) → Ok tt ≡ handed numbered p o → o ≡ None
+  handed_ok numbered p None e = refl
+  handed_ok numbered p (Some x) e = cc
 
-  pub handed_err : (p : Place) (o : Option R) (f : JoinFault R) → Err f ≡ handed p o → (x : R) × (o ≡ Some x) × (f ≡ record { refusal = x; place = p })
-  handed_err p None f e = absurd (cc)
-  handed_err p (Some x) f e = (x, refl, cc)
+  pub handed_err : (numbered : R → ℕ) (p : Place) (o : Option R) (f : JoinFault) → Err f ≡ handed numbered p o → (x : R) × (o ≡ Some x) × (f ≡ record { number = numbered x; place = p })
+  handed_err numbered p None f e = absurd (cc)
+  handed_err numbered p (Some x) f e = (x, refl, cc)
 
 module _ {J R : Type 0} (rule : List J → J → Option R) where
   pub accepts_more : (before js : List J) (j : J) → Accepts rule before js → rule (before ++ js) j ≡ None → Accepts rule before (js ++ j ∷ [])

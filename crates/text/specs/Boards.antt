@@ -58,7 +58,7 @@ pub data Stop {K R : Type 0} (s : Setting K R) (F rest : List ℕ) (sofar : ℕ)
   ended : rest ≡ [] → r ≡ Ok sofar → Stop s F rest sofar taken r
   unended : 0 < length rest → Lacks 10 rest → r ≡ Err (of_line (Misformed (placed (sofar + 2) F rest))) → Stop s F rest sofar taken r
   wrong : (L more : List ℕ) (f : Fault) → rest ≡ L ++ 10 ∷ more → Lacks 10 L → Wrong s.spelled F L (sofar + 2) f → r ≡ Err f → Stop s F rest sofar taken r
-  refused : (L more : List ℕ) (j : Join K) (e : R) → rest ≡ L ++ 10 ∷ more → Lacks 10 L → Joins s.spelled L j → s.rule taken j ≡ Some e → r ≡ Err (of_join s.numbered (record { refusal = e; place = placed (sofar + 2) F L })) → Stop s F rest sofar taken r
+  refused : (L more : List ℕ) (j : Join K) (e : R) → rest ≡ L ++ 10 ∷ more → Lacks 10 L → Joins s.spelled L j → s.rule taken j ≡ Some e → r ≡ Err (of_join (record { number = s.numbered e; place = placed (sofar + 2) F L })) → Stop s F rest sofar taken r
 
 -- what comes of a text: the joins of the lines before it stops are handed on, and no other
 pub data Outcome {K R : Type 0} (s : Setting K R) (text : List ℕ) (before after : List (Join K)) (r : Result ℕ Fault) : Type 0 where

@@ -24,10 +24,10 @@ Answers {J} before rule j r = (js : List J) → before js → r ≡ answered (ru
 abbrev pub Grows : {J R : Type 0} → (List J → Type 0) → (List J → Type 0) → J → Result (Unit {0}) R → Type 0
 Grows {J} before after j r = (js : List J) → before js → after (grown js j r)
 
--- the same answer, with the place of a join that is refused
-abbrev pub handed : {R : Type 0} → Place → Option R → Result (Unit {0}) (JoinFault R)
-handed p None = Ok tt
-handed p (Some e) = Err (record { refusal = e; place = p })
+-- the same answer, with the number of a refusal and the place of the join
+abbrev pub handed : {R : Type 0} → (R → ℕ) → Place → Option R → Result (Unit {0}) JoinFault
+handed numbered p None = Ok tt
+handed numbered p (Some e) = Err (record { number = numbered e; place = p })
 
 -- the joins js are taken one after the other, where others were taken before
 abbrev pub Accepts : {J R : Type 0} → (List J → J → Option R) → List J → List J → Type 0

@@ -6,7 +6,7 @@ ghost use Rattle.text.specs.Passing.{AfterHeader, Headless};
 ghost use Rattle.text.specs.Pieces.{NamedIn};
 
 use crate::lines::Lines;
-use crate::takers::{Headed, Join, Taker};
+use crate::takers::{Headed, JobRefusal, Join, Taker};
 use crate::tokens::read_join;
 use faults::{Fault, JoinFault, LineFault, Place, SizeFault};
 
@@ -36,6 +36,7 @@ fn after_header<K: Headed>(text: &[u8]) -> Result<Lines<'_>, LineFault>
 }
 
 /// Whether the first line of a text is the header of these keys.
+#[tactic(auto, using(crate::proofs::Reading::header_decided, crate::proofs::Cuts::lacks_by))]
 pub fn begins<K: Headed>(text: &[u8]) -> bool
     ensures { Decides result (Begins K.header text.now) }
 {
@@ -43,17 +44,14 @@ pub fn begins<K: Headed>(text: &[u8]) -> bool
 }
 
 /// Hands a join on; a refusal is given its place.
-fn hand_on<T: Taker>(
-    taker: &mut T,
-    join: Join<T::Key>,
-    place: Place,
-) -> Result<(), JoinFault<T::Refusal>>
-    ensures answers { (js : List (Join T.Key)) → T.taken taker.old js → result ≡ handed place (T.rule js join) }
+fn hand_on<T: Taker>(taker: &mut T, join: Join<T::Key>, place: Place) -> Result<(), JoinFault>
+    ensures answers { (js : List (Join T.Key)) → T.taken taker.old js → result ≡ handed T.Refusal.numbered place (T.rule js join) }
     ensures grows { Grows (T.taken taker.old) (T.taken taker.new) join result }
 {
-    taker
-        .take(join)
-        .map_err(|refusal| JoinFault { refusal, place })
+    taker.take(join).map_err(|refusal| JoinFault {
+        number: refusal.number(),
+        place,
+    })
 }
 
 /// The lines of a text one after the other, up to its end or the first fault.

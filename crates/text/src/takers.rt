@@ -4,7 +4,7 @@ ghost use Rattle.text.specs.Joins.{Answers, Grows};
 ghost use Rattle.text.specs.Lines.{lacks};
 ghost use Rattle.text.specs.declared.takers.Join.{Join};
 
-use faults::JobRefusal;
+pub use faults::JobRefusal;
 use keys::Spelled;
 
 /// Two nets by their keys, and the weight between them.

@@ -44,8 +44,8 @@ returns-in_err-hand_on g c =
     let d = i.1 in
     λ before h.
     let t = i.2 before h in
-    let x = handed_err _ _ _ (a.answers (before ++ i.0) t.1) in
-    (before ++ i.0, reading i.0 _ c.in_ok-measure.ensures d.whole d.fine t.0 refl (refused _ _ c.in_ok-join.join x.0 s.cut c.in-Some.line.endless c.in_ok-join.ensures x.1 (p.1 ∙ ap Err (p.2 ∙ ap (of_join numbered) x.2 ∙ ap (λ q. of_join numbered (record { refusal = x.0; place = q })) (c.place.ensures ∙ line_located d s)))), a.grows (before ++ i.0) t.1)
+    let x = handed_err numbered _ _ _ (a.answers (before ++ i.0) t.1) in
+    (before ++ i.0, reading i.0 _ c.in_ok-measure.ensures d.whole d.fine t.0 refl (refused _ _ c.in_ok-join.join x.0 s.cut c.in-Some.line.endless c.in_ok-join.ensures x.1 (p.1 ∙ ap Err (p.2 ∙ ap of_join x.2 ∙ ap (λ q. of_join (record { number = numbered x.0; place = q })) (c.place.ensures ∙ line_located d s)))), a.grows (before ++ i.0) t.1)
 
 pub loop-line-preserved : goal.loop-line-preserved
 loop-line-preserved g c =
@@ -57,7 +57,7 @@ loop-line-preserved g c =
       more j i.1 s c.in_ok-join.ensures,
       λ before h.
           let t = i.2 before h in
-          (accepts_more g.T.Taker.rule before i.0 j t.0 (handed_ok _ _ (a.answers (before ++ i.0) t.1)), subst (g.T.Taker.taken c.hand_on.new.taker) (append_assoc before i.0 (j ∷ [])) (a.grows (before ++ i.0) t.1)),
+          (accepts_more g.T.Taker.rule before i.0 j t.0 (handed_ok g.T.Refusal.JobRefusal.numbered _ _ (a.answers (before ++ i.0) t.1)), subst (g.T.Taker.taken c.hand_on.new.taker) (append_assoc before i.0 (j ∷ [])) (a.grows (before ++ i.0) t.1)),
     )
 
 pub returns : goal.returns
