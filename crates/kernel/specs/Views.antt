@@ -1,9 +1,10 @@
 -- The board that a kernel holds. Assumes nothing.
-use Rattle.std.specs.Prelude.{◌≡◌, ℕ, Bool, false, cond, ◌||◌, List, [], ◌∷◌, map, ℤ, pos, ◌==◌}
+use Rattle.std.specs.Prelude.{◌≡◌, ℕ, Bool, false, cond, ◌||◌, List, [], ◌∷◌, map, take, ℤ, pos, ◌==◌}
 use Rattle.cuts.specs.Boards.{Board}
 use Rattle.kernel.specs.Arrays.{board_in}
 use Rattle.kernel.specs.declared.board.Kernel.{Kernel}
 use Rattle.grid.specs.declared.nets.Net.{Net}
+use Rattle.kernel.specs.declared.order.Standing.{Standing}
 
 abbrev pub view : Kernel → Board
 view k = board_in k.nets k.standing k.weights
@@ -23,3 +24,6 @@ besides vs f i = cond (named vs i) (pos 0) (f i)
 
 abbrev pub indices : List Net → List ℕ
 indices vs = map (λ v. v.index) vs
+
+abbrev pub nets_of : Standing → List Net
+nets_of s = take s.count s.row

@@ -5,8 +5,10 @@ pub mod board;
 pub mod changes;
 pub mod kept;
 pub mod merging;
+pub mod order;
 pub mod readings;
 pub mod values;
 
 pub use board::Kernel;
 pub use changes::SetRefusal;
+pub use order::Standing;

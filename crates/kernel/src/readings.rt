@@ -2,10 +2,10 @@
 ghost use Rattle.std.specs.Prelude.{◌≡◌};
 ghost use Rattle.cuts.specs.Boards.{size, connections, standing};
 ghost use Rattle.cuts.specs.Sums.{∑};
-ghost use Rattle.kernel.specs.Views.{view, besides, indices};
+ghost use Rattle.kernel.specs.Views.{view, besides, indices, nets_of};
 
 use crate::board::Kernel;
-use arrayvec::ArrayVec;
+use crate::order::Standing;
 use grid::Net;
 use grid::nets::NETS;
 use grid::sums::sum_of;
@@ -28,20 +28,31 @@ impl Kernel {
     pub fn connections(&self, v: Net) -> usize
         ensures { result ≡ connections (view self.now) v.index }
     {
-        let row = &self.weights.row(v)[..self.nets];
-        row.iter().filter(|weight| **weight != 0).count()
+        // `as` is proved to lose nothing; as `filter` and `count` of the row it took twice the time
+        sum_of(self.nets, |u| i64::from(self.weights.connects(v, u))) as usize
     }
 
     /// The standing nets, in number order.
-    pub fn standing(&self) -> ArrayVec<Net, NETS>
-        ensures { indices result.items ≡ standing (view self.now) }
+    pub fn standing(&self) -> Standing
+        ensures { indices (nets_of result) ≡ standing (view self.now) }
     {
-        let mut nets = ArrayVec::new();
+        let mut row = [Net::default(); NETS];
+        let mut count = 0;
         for (index, stands) in self.standing[..self.nets].iter().enumerate() {
             if *stands {
-                nets.push(Net { index });
+                row[count] = Net { index };
+                count += 1;
             }
         }
-        nets
+        Standing { row, count }
+    }
+}
+
+impl Standing {
+    /// The nets.
+    pub fn nets(&self) -> &[Net]
+        ensures { result.now ≡ nets_of self.now }
+    {
+        &self.row[..self.count]
     }
 }

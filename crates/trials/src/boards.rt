@@ -182,14 +182,16 @@ fn exact(pairs: &[(u8, u8, i32)], kernel: &Kernel, v: Net, u: Net, tie: Tie) -> 
 }
 
 /// Whether that holds for every two nets, joined and opposed, and no net merges with itself.
+// by number, so that what is tried does not rest on what `standing` tells
 pub(crate) fn all_exact(nets: u8, pairs: &[(u8, u8, i32)]) -> Option<bool> {
     let kernel = built(nets, pairs)?;
-    let standing = kernel.standing();
-    for v in standing.iter() {
-        for u in standing.iter() {
-            let apart = v != u;
-            if exact(pairs, &kernel, *v, *u, Tie::Joined) != apart
-                || exact(pairs, &kernel, *v, *u, Tie::Opposed) != apart
+    for i in 1..=nets {
+        let v = net(i)?;
+        for j in 1..=nets {
+            let u = net(j)?;
+            let apart = i != j;
+            if exact(pairs, &kernel, v, u, Tie::Joined) != apart
+                || exact(pairs, &kernel, v, u, Tie::Opposed) != apart
             {
                 return Some(false);
             }
@@ -199,12 +201,14 @@ pub(crate) fn all_exact(nets: u8, pairs: &[(u8, u8, i32)]) -> Option<bool> {
 }
 
 /// A ring of nets, each connected to the next by this weight.
+// by number, as above
 pub(crate) fn ring(nets: u8, weight: i32) -> Option<Kernel> {
     let mut kernel = built(nets, &[])?;
     let mut last = net(nets)?;
-    for next in kernel.standing().iter() {
-        kernel.set(last, *next, weight).ok()?;
-        last = *next;
+    for number in 1..=nets {
+        let next = net(number)?;
+        kernel.set(last, next, weight).ok()?;
+        last = next;
     }
     Some(kernel)
 }
@@ -212,8 +216,9 @@ pub(crate) fn ring(nets: u8, weight: i32) -> Option<Kernel> {
 /// Whether just these nets stand.
 pub(crate) fn stand(kernel: &Kernel, numbers: &[u8]) -> bool {
     let standing = kernel.standing();
-    standing.len() == numbers.len()
-        && standing
+    let nets = standing.nets();
+    nets.len() == numbers.len()
+        && nets
             .iter()
             .zip(numbers)
             .all(|(net, number)| u8::from(*net) == *number)
