@@ -28,7 +28,7 @@ impl Kernel {
     pub fn connections(&self, v: Net) -> usize
         ensures { result ≡ connections (view self.now) v.index }
     {
-        // `as` is proved to lose nothing; as `filter` and `count` of the row it took twice the time
+        // `as` is proved to lose nothing; `filter` and `count` of the row took more than twice as long
         sum_of(self.nets, |u| i64::from(self.weights.connects(v, u))) as usize
     }
 
