@@ -37,7 +37,7 @@ pub trait JobRefusal {
 }
 
 /// A join that was not taken, by the number of its refusal, and its line.
-// a number and no refusal: with one it would be `Copy` as that is, and of the numbers 21 to 26 alone
+// with the refusal itself it would be `Copy` only where that is, and have no number but 21 to 26
 #[derive(Clone, Copy, PartialEq, Eq, Debug)]
 pub struct JoinFault {
     pub number: u8,
